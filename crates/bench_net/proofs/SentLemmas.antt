@@ -15,7 +15,7 @@ use Rattle.std.proofs.lemmas.List.Folds.{position_or_len_push, list_any-append, 
 use Rattle.indexmap.specs.IndexSet.{insert_key}
 use Rattle.bench_net.specs.SentList.{SentPacket, sent_packet, was_sent}
 use Rattle.bench_net.specs.declared.sent.Packet.{Packet}
-use Rattle.bench_net.specs.SentFields.{lists_of, packets_of, is_reported, ReportsOf}
+use Rattle.bench_net.specs.SentFields.{lists_of, packets_of, is_sent_pair, SentPairs}
 use Rattle.bench_net.proofs.Places.{place-map, position-map, insert_key-map, any_within, place_found, place_missing}
 use Rattle.bench_net.proofs.Places.{found_at, missing_at}
 
@@ -106,51 +106,53 @@ pair_equal (s, i) (t, j) e =
     cc
 
 -- a pair that is put in is found, and no other
-pair_put : (reported : List (ℕ × ℕ)) (new pair : ℕ × ℕ)
-    → list_any (is_pair pair) (insert_key is_pair reported new) ≡ (list_any (is_pair pair) reported || is_pair pair new)
-pair_put reported new pair = by (list_any (is_pair new) reported) refl
+pair_put : (sent_pairs : List (ℕ × ℕ)) (new pair : ℕ × ℕ)
+    → list_any (is_pair pair) (insert_key is_pair sent_pairs new)
+    ≡ (list_any (is_pair pair) sent_pairs || is_pair pair new)
+pair_put sent_pairs new pair = by (list_any (is_pair new) sent_pairs) refl
   where
-    found : (c : Bool) → is_pair pair new ≡ c → list_any (is_pair new) reported ≡ true
-        → list_any (is_pair pair) reported ≡ (list_any (is_pair pair) reported || c)
+    found : (c : Bool) → is_pair pair new ≡ c → list_any (is_pair new) sent_pairs ≡ true
+        → list_any (is_pair pair) sent_pairs ≡ (list_any (is_pair pair) sent_pairs || c)
     found true e there =
-        let yes : list_any (is_pair pair) reported ≡ true =
-        ap (λ (p : ℕ × ℕ). list_any (is_pair p) reported) (pair_equal pair new e) ∙ there in
+        let yes : list_any (is_pair pair) sent_pairs ≡ true =
+        ap (λ (p : ℕ × ℕ). list_any (is_pair p) sent_pairs) (pair_equal pair new e) ∙ there in
         rw yes refl
-    found false e there = sym (or-false (list_any (is_pair pair) reported))
+    found false e there = sym (or-false (list_any (is_pair pair) sent_pairs))
 
-    by : (b : Bool) → list_any (is_pair new) reported ≡ b
-        → list_any (is_pair pair) (if b then reported else reported ++ new ∷ [])
-        ≡ (list_any (is_pair pair) reported || is_pair pair new)
+    by : (b : Bool) → list_any (is_pair new) sent_pairs ≡ b
+        → list_any (is_pair pair) (if b then sent_pairs else sent_pairs ++ new ∷ [])
+        ≡ (list_any (is_pair pair) sent_pairs || is_pair pair new)
     by true e = found (is_pair pair new) refl e
     by false e =
-        list_any-append (is_pair pair) reported (new ∷ [])
-        ∙ ap (λ (c : Bool). list_any (is_pair pair) reported || c) (or-false (is_pair pair new))
+        list_any-append (is_pair pair) sent_pairs (new ∷ [])
+        ∙ ap (λ (c : Bool). list_any (is_pair pair) sent_pairs || c) (or-false (is_pair pair new))
 
 -- no pair reports a vector that is not there
-none_after : (reported : List (ℕ × ℕ)) (sender end : ℕ) → All (λ pair. pair.1 < end) reported
-    → list_any (is_pair (sender, end)) reported ≡ false
-none_after reported sender end below =
-    list_any_none (is_pair (sender, end)) reported (λ k d h. let lt = below k d h in differs (get_or reported k d) lt)
+none_after : (sent_pairs : List (ℕ × ℕ)) (sender end : ℕ) → All (λ pair. pair.1 < end) sent_pairs
+    → list_any (is_pair (sender, end)) sent_pairs ≡ false
+none_after sent_pairs sender end below =
+    list_any_none (is_pair (sender, end)) sent_pairs
+    (λ k d h. let lt = below k d h in differs (get_or sent_pairs k d) lt)
   where
     differs : (pair : ℕ × ℕ) → pair.1 < end → is_pair (sender, end) pair ≡ false
     differs (t, j) lt = let no : eqb end j ≡ false = grind arith in rw no (and-false (eqb sender t))
 
-within_put : (reported : List (ℕ × ℕ)) (sender i low high : ℕ) → low ≤ high → i < high
-    → All (λ pair. pair.1 < low) reported
-    → All (λ pair. pair.1 < high) (insert_key is_pair reported (sender, i))
-within_put reported sender i low high le lt below = by (list_any (is_pair (sender, i)) reported)
+within_put : (sent_pairs : List (ℕ × ℕ)) (sender i low high : ℕ) → low ≤ high → i < high
+    → All (λ pair. pair.1 < low) sent_pairs
+    → All (λ pair. pair.1 < high) (insert_key is_pair sent_pairs (sender, i))
+within_put sent_pairs sender i low high le lt below = by (list_any (is_pair (sender, i)) sent_pairs)
   where
-    higher : All (λ pair. pair.1 < high) reported
+    higher : All (λ pair. pair.1 < high) sent_pairs
     higher k d h = let b = below k d h in omega (arith, b)
 
-    by : (b : Bool) → All (λ pair. pair.1 < high) (if b then reported else reported ++ (sender, i) ∷ [])
+    by : (b : Bool) → All (λ pair. pair.1 < high) (if b then sent_pairs else sent_pairs ++ (sender, i) ∷ [])
     by true = higher
-    by false = All-push (λ pair. pair.1 < high) reported (sender, i) higher lt
+    by false = All-push (λ pair. pair.1 < high) sent_pairs (sender, i) higher lt
 
 -- ---- one packet more
 
-module _ (ks : List (List ℕ)) (reported : List (ℕ × ℕ)) (packets : List SentPacket)
-    (tells : ReportsOf ks reported packets)
+module _ (ks : List (List ℕ)) (sent_pairs : List (ℕ × ℕ)) (packets : List SentPacket)
+    (tells : SentPairs ks sent_pairs packets)
     (sender : ℕ) (w octets : List ℕ) where
   abbrev number : ℕ
   number = position_or_len (bytes_eq w) ks
@@ -159,19 +161,20 @@ module _ (ks : List (List ℕ)) (reported : List (ℕ × ℕ)) (packets : List S
   more = insert_key bytes_eq ks w
 
   abbrev pairs : List (ℕ × ℕ)
-  pairs = insert_key is_pair reported (sender, number)
+  pairs = insert_key is_pair sent_pairs (sender, number)
 
   put : PutIn ks more w number
   put = put_in ks w
 
   -- what the pairs say of a vector that was there
   reported_there : (s : ℕ) (v : List ℕ) (j : ℕ) → position (bytes_eq v) ks ≡ Some j
-      → is_reported s v more pairs ≡ (is_reported s v ks reported || (eqb s sender && bytes_eq v w))
+      → is_sent_pair s v more pairs ≡ (is_sent_pair s v ks sent_pairs || (eqb s sender && bytes_eq v w))
   reported_there s v j at =
       let known = put.found v j at in
       rw (at, known)
-      (pair_put reported (sender, number) (s, j)
-      ∙ ap (λ (b : Bool). list_any (is_pair (s, j)) reported || (eqb s sender && b)) (numbers_are (bytes_eq v w) refl))
+      (pair_put sent_pairs (sender, number) (s, j)
+      ∙ ap (λ (b : Bool). list_any (is_pair (s, j)) sent_pairs || (eqb s sender && b))
+      (numbers_are (bytes_eq v w) refl))
     where
       numbers_are : (b : Bool) → bytes_eq v w ≡ b → eqb j number ≡ b
       numbers_are true e =
@@ -194,12 +197,12 @@ module _ (ks : List (List ℕ)) (reported : List (ℕ × ℕ)) (packets : List S
               absurd (let no : true ≡ false = sym both ∙ e in cc)
 
   -- and of one that was not
-  reported_new : (s : ℕ) (v : List ℕ) → position (bytes_eq v) ks ≡ None
-      → is_reported s v more pairs ≡ (is_reported s v ks reported || (eqb s sender && bytes_eq v w))
-  reported_new s v none = by (bytes_eq v w) refl
+  sent_new : (s : ℕ) (v : List ℕ) → position (bytes_eq v) ks ≡ None
+      → is_sent_pair s v more pairs ≡ (is_sent_pair s v ks sent_pairs || (eqb s sender && bytes_eq v w))
+  sent_new s v none = by (bytes_eq v w) refl
     where
-      by : (b : Bool) → bytes_eq v w ≡ b → is_reported s v more pairs
-          ≡ (is_reported s v ks reported || (eqb s sender && b))
+      by : (b : Bool) → bytes_eq v w ≡ b → is_sent_pair s v more pairs
+          ≡ (is_sent_pair s v ks sent_pairs || (eqb s sender && b))
       by true e =
           let v-is = (bytes_eq-Decides v w).0 e in
           let at-w : position (bytes_eq w) ks ≡ None =
@@ -208,25 +211,25 @@ module _ (ks : List (List ℕ)) (reported : List (ℕ × ℕ)) (packets : List S
           ap (λ (x : List ℕ). position (bytes_eq x) more) v-is ∙ put.itself in
           let here : eqb number number ≡ true = grind arith in
           let end : number ≡ length ks = put.fresh at-w in
-          let nobody : list_any (is_pair (s, number)) reported ≡ false =
-          ap (λ (n : ℕ). list_any (is_pair (s, n)) reported) end ∙ none_after reported s (length ks) tells.within in
-          rw (none, known) (pair_put reported (sender, number) (s, number) ∙ rw (nobody, here) refl)
+          let nobody : list_any (is_pair (s, number)) sent_pairs ≡ false =
+          ap (λ (n : ℕ). list_any (is_pair (s, n)) sent_pairs) end ∙ none_after sent_pairs s (length ks) tells.within in
+          rw (none, known) (pair_put sent_pairs (sender, number) (s, number) ∙ rw (nobody, here) refl)
       by false e =
           let known = put.missing v none e in
           rw (none, known) (sym (and-false (eqb s sender)))
 
-  reported_more : (s : ℕ) (v : List ℕ) → is_reported s v more pairs
-      ≡ (is_reported s v ks reported || (eqb s sender && bytes_eq v w))
+  reported_more : (s : ℕ) (v : List ℕ) → is_sent_pair s v more pairs
+      ≡ (is_sent_pair s v ks sent_pairs || (eqb s sender && bytes_eq v w))
   reported_more s v = by (position (bytes_eq v) ks) refl
     where
       by : (r : Option ℕ) → position (bytes_eq v) ks ≡ r
-          → is_reported s v more pairs ≡ (is_reported s v ks reported || (eqb s sender && bytes_eq v w))
+          → is_sent_pair s v more pairs ≡ (is_sent_pair s v ks sent_pairs || (eqb s sender && bytes_eq v w))
       by (Some j) e = reported_there s v j e
-      by None e = reported_new s v e
+      by None e = sent_new s v e
 
-  pub reports_more : ReportsOf more pairs (packets ++ sent_packet sender w octets ∷ [])
+  pub reports_more : SentPairs more pairs (packets ++ sent_packet sender w octets ∷ [])
   reports_more = record {
-    within = within_put reported sender number (length ks) (length more) put.longer put.within tells.within;
+    within = within_put sent_pairs sender number (length ks) (length more) put.longer put.within tells.within;
     answers = λ s v.
         list_any-append (λ (p : SentPacket). eqb s p.sender && bytes_eq v p.vector) packets
         (sent_packet sender w octets ∷ [])
@@ -240,14 +243,14 @@ module _ (ks : List (List ℕ)) (reported : List (ℕ × ℕ)) (packets : List S
 pub at_ok : {A E : Type 0} (r : Result A E) (x : A) (P : A → Type 0) → r ≡ Ok x → IfOk r P → P x
 at_ok {A = A} {E = E} r x P e h = let Q : Result A E → Type 0 = λ r. IfOk r P in subst Q e h
 
-module _ {X : Type 0} (vectors : List (Vec ℕ X)) (reported : List (ℕ × ℕ)) (sender : ℕ) (v : List ℕ) where
+module _ {X : Type 0} (vectors : List (Vec ℕ X)) (sent_pairs : List (ℕ × ℕ)) (sender : ℕ) (v : List ℕ) where
   pub reported_none : position (λ y. bytes_eq v y.items) vectors ≡ None
-      → is_reported sender v (lists_of vectors) reported ≡ false
+      → is_sent_pair sender v (lists_of vectors) sent_pairs ≡ false
   reported_none e = rw (position-map (λ (y : Vec ℕ X). y.items) (bytes_eq v) vectors, e) refl
 
-  pub reported_some : (i : ℕ) → position (λ y. bytes_eq v y.items) vectors ≡ Some i
-      → is_reported sender v (lists_of vectors) reported ≡ list_any (is_pair (sender, i)) reported
-  reported_some i e = rw (position-map (λ (y : Vec ℕ X). y.items) (bytes_eq v) vectors, e) refl
+  pub sent_some : (i : ℕ) → position (λ y. bytes_eq v y.items) vectors ≡ Some i
+      → is_sent_pair sender v (lists_of vectors) sent_pairs ≡ list_any (is_pair (sender, i)) sent_pairs
+  sent_some i e = rw (position-map (λ (y : Vec ℕ X). y.items) (bytes_eq v) vectors, e) refl
 
 packets_same : (ks more : List (List ℕ)) (packets : List Packet) → All (λ (p : Packet). p.vector < length ks) packets
     → ((k : ℕ) → k < length ks → get_or more k [] ≡ get_or ks k []) → packets_of more packets ≡ packets_of ks packets
@@ -257,14 +260,14 @@ packets_same ks more (p ∷ ps) within kept =
     let rest = packets_same ks more ps (All-tail (λ (p : Packet). p.vector < length ks) p ps within) kept in
     rw (here, rest) refl
 
-module _ {X : Type 0} (vs more : List (Vec ℕ X)) (reported pairs : List (ℕ × ℕ)) (old new : List Packet) (v : Vec ℕ X)
+module _ {X : Type 0} (vs more : List (Vec ℕ X)) (sent_pairs pairs : List (ℕ × ℕ)) (old new : List Packet) (v : Vec ℕ X)
     (p : Packet)
     (vectors : more ≡ insert_key (λ x y. bytes_eq x.items y.items) vs v)
     (index : p.vector ≡ position_or_len (λ y. bytes_eq v.items y.items) vs)
-    (pair : pairs ≡ insert_key is_pair reported (p.sender, p.vector))
+    (pair : pairs ≡ insert_key is_pair sent_pairs (p.sender, p.vector))
     (push : new ≡ old ++ p ∷ [])
     (within : All (λ (p : Packet). p.vector < length vs) old)
-    (tells : ReportsOf (lists_of vs) reported (packets_of (lists_of vs) old)) where
+    (tells : SentPairs (lists_of vs) sent_pairs (packets_of (lists_of vs) old)) where
   lists : lists_of more ≡ insert_key bytes_eq (lists_of vs) v.items
   lists = ap lists_of vectors ∙ insert_key-map (λ (y : Vec ℕ X). y.items) bytes_eq vs v
 
@@ -296,10 +299,10 @@ module _ {X : Type 0} (vs more : List (Vec ℕ X)) (reported pairs : List (ℕ �
       (λ k d h. let lt = within k d h in omega (arith, lt, in_lists.longer, long, long_more))
       (omega (arith, in_lists.within, long_more)))
 
-  pub still_reports : ReportsOf (lists_of more) pairs (packets_of (lists_of more) new)
+  pub still_reports : SentPairs (lists_of more) pairs (packets_of (lists_of more) new)
   still_reports =
       rw (sent, lists, pair, place)
-      (reports_more (lists_of vs) reported (packets_of (lists_of vs) old) tells p.sender v.items p.octets.items)
+      (reports_more (lists_of vs) sent_pairs (packets_of (lists_of vs) old) tells p.sender v.items p.octets.items)
 
 pub length-packets_of : (ks : List (List ℕ)) (packets : List Packet) → length (packets_of ks packets) ≡ length packets
 length-packets_of ks packets =

@@ -19,22 +19,23 @@ packets_of vectors packets =
     map (λ (p : Packet). sent_packet p.sender (slice_index_or vectors p.vector []) p.octets.items) packets
 
 -- The answer that the vectors and the pairs of a sender and a vector's number give.
-abbrev pub is_reported : ℕ → List ℕ → List (List ℕ) → List (ℕ × ℕ) → Bool
-is_reported sender vector vectors reported =
-    option_map_or (λ i. list_any (λ pair. (sender == pair.0) && (i == pair.1)) reported)
+abbrev pub is_sent_pair : ℕ → List ℕ → List (List ℕ) → List (ℕ × ℕ) → Bool
+is_sent_pair sender vector vectors sent_pairs =
+    option_map_or (λ i. list_any (λ pair. (sender == pair.0) && (i == pair.1)) sent_pairs)
     (position (bytes_eq vector) vectors) false
 
 -- The pairs report the vectors, and as the packets do.
-pub record ReportsOf (vectors : List (List ℕ)) (reported : List (ℕ × ℕ)) (packets : List SentPacket) : Type 0 where
-  pub within : All (λ pair. pair.1 < length vectors) reported
+pub record SentPairs (vectors : List (List ℕ)) (sent_pairs : List (ℕ × ℕ)) (packets : List SentPacket) : Type 0 where
+  pub within : All (λ pair. pair.1 < length vectors) sent_pairs
   pub answers : (sender : ℕ) (vector : List ℕ)
-      → was_sent sender vector packets ≡ is_reported sender vector vectors reported
+      → was_sent sender vector packets ≡ is_sent_pair sender vector vectors sent_pairs
 
 -- There is the room that is spare, each packet's vector is there, and the pairs tell as the packets do.
 pub record AreSent (s : Inside) : Type 0 where
   pub room : s.spare + length s.packets.items ≤ vec_capacity s.packets
   pub room_of_vectors : s.spare ≤ spare s.vectors
-  pub room_of_reported : s.spare ≤ spare s.reported
+  pub room_of_pairs : s.spare ≤ spare s.sent_pairs
   pub few : length s.packets.items < 4294967296
   pub within : All (λ (p : Packet). p.vector < length s.vectors.keys) s.packets.items
-  pub tells : ReportsOf (lists_of s.vectors.keys) s.reported.keys (packets_of (lists_of s.vectors.keys) s.packets.items)
+  pub tells : SentPairs (lists_of s.vectors.keys) s.sent_pairs.keys
+      (packets_of (lists_of s.vectors.keys) s.packets.items)

@@ -23,7 +23,7 @@ pub struct Sent {
     // Each vector that was sent, once.
     vectors: IndexSet<Vec<u16>>,
     // Who sent which, by the vector's number.
-    reported: IndexSet<(u32, usize)>,
+    sent_pairs: IndexSet<(u32, usize)>,
     spare: usize,
 }
 
@@ -33,7 +33,7 @@ impl Drop for Sent {
         let Sent {
             packets: _,
             vectors: _,
-            reported: _,
+            sent_pairs: _,
             spare: _,
         } = self;
     }
@@ -62,7 +62,7 @@ impl Sent {
         Sent {
             packets: Vec::new(alloc),
             vectors: IndexSet::new(alloc),
-            reported: IndexSet::new(alloc),
+            sent_pairs: IndexSet::new(alloc),
             spare: 0,
         }
     }
@@ -101,7 +101,7 @@ impl Sent {
         if self.spare < n {
             self.packets.reserve(n)?;
             self.vectors.reserve(n)?;
-            self.reported.reserve(n)?;
+            self.sent_pairs.reserve(n)?;
             self.spare = n;
         }
         Ok(())
@@ -116,7 +116,7 @@ impl Sent {
         ensures spare { self.new.spare ≡ self.old.spare - 1 }
     {
         let (vector, _) = self.vectors.insert_full(vector).unwrap();
-        self.reported.insert((sender, vector)).unwrap();
+        self.sent_pairs.insert((sender, vector)).unwrap();
         let packet = Packet {
             sender,
             vector,
@@ -159,7 +159,7 @@ impl Sent {
         ensures { result ≡ was_sent sender vector.now self.now.packets }
     {
         match self.vectors.get_index_of(vector) {
-            Some(vector) => self.reported.contains(&(sender, vector)),
+            Some(vector) => self.sent_pairs.contains(&(sender, vector)),
             None => false,
         }
     }

@@ -1,4 +1,4 @@
-/// What a run of a group comes to.
+/// Counts over a run of a group.
 #[derive(Clone, Copy, Debug, PartialEq, Eq, Default)]
 pub struct Tally {
     /// The sync Interests that were sent.

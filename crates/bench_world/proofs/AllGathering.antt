@@ -11,11 +11,11 @@ use Rattle.repo_plan.specs.Parts.{pair_cmp, part_cmp, pair_of}
 use Rattle.repo_plan.proofs.Orders.{exact_parts}
 use Rattle.sorted_lists.proofs.Sets.{rises_filter, or_swap}
 use Rattle.group_model.specs.Publications.{all_parts}
-use Rattle.group_model.specs.Member.{Member, member_holds, member_hides, insert_keys}
+use Rattle.group_model.specs.Member.{Member, member_holds, has_deleted, insert_keys}
 use Rattle.group_model.specs.World.{World, no_member, member, logs, someone_holds}
 use Rattle.group_model.specs.Settles.{learnt_member, IsGathering}
 use Rattle.group_model.specs.Sound.{IsSoundGroup, IsSoundMember}
-use Rattle.group_model.specs.Steps.{comes_to, new_parts, settled_member, settle_gains}
+use Rattle.group_model.specs.Steps.{is_gained, new_parts, settled_member, settle_new_parts}
 use Rattle.group_model.proofs.Lists.{from_filter}
 use Rattle.group_model.proofs.Parts.{all_parts_rise}
 use Rattle.group_model.proofs.Settles.{comes}
@@ -29,7 +29,7 @@ use Rattle.bench_world.specs.Lending.{lends}
 use Rattle.bench_world.specs.Truth.{stores, TriedFew, AllTriedFew}
 use Rattle.bench_world.specs.MemberWords.{member_words}
 use Rattle.bench_world.specs.Gathering.{one_each, Counts, GainsParts, NothingLeft}
-use Rattle.bench_world.specs.Settling.{gain_sum, AreGathering, GatheredSoFar, IsPartlySettled, ArePartlySettled}
+use Rattle.bench_world.specs.Settling.{new_parts_sum, AreGathering, FetchedSoFar, IsPartlySettled, ArePartlySettled}
 use Rattle.bench_world.specs.Worlds.{nobody, state_at, others_than, in_groups, AreConsistentMembers, MembersAreNumbered}
 use Rattle.bench_world.proofs.SetSums.{sum_insert_keys, ones}
 use Rattle.bench_world.specs.MembersHold.{members_hold}
@@ -65,8 +65,8 @@ came_sum w m held weight n count =
     let more : sum_by weight (insert_keys (new_parts w m) m.held)
     ≡ sum_by weight (new_parts w m) + sum_by weight m.held =
     sum_insert_keys weight (new_parts w m) m.held
-    (rises_filter exact_parts.total (comes_to w m) (all_parts (logs w)) (all_parts_rise (logs w))) held
-    (λ t i. (comes w m t (from_filter (comes_to w m) (all_parts (logs w)) t i).1).fresh) in
+    (rises_filter exact_parts.total (is_gained w m) (all_parts (logs w)) (all_parts_rise (logs w))) held
+    (λ t i. (comes w m t (from_filter (is_gained w m) (all_parts (logs w)) t i).1).fresh) in
     omega (arith, count, more)
 
 -- ---- all of them, one after another
@@ -96,7 +96,7 @@ module _ (g : GroupKeys) (w : World) (group : IsSoundGroup w) (are : AreLogs g (
     again (m ∷ ms) = ap (λ (b : Bool). member_holds m t || b) (again ms)
 
   pub gathered_none : AreConsistentMembers g (logs w) begun → MembersAreNumbered begun → AllTriedFew begun
-      → GatheredSoFar g w begun 0 begun
+      → FetchedSoFar g w begun 0 begun
   gathered_none consistent numbers tried = record {
     all = record {
       len = refl;
@@ -115,7 +115,7 @@ module _ (g : GroupKeys) (w : World) (group : IsSoundGroup w) (are : AreLogs g (
 
   -- Who hasn't gathered yet lacks nothing but parts of what was touched.
   pub lacks_at : (n : Touched) → NoneLacks n (in_groups begun) → (j : ℕ) (mid : List MemberState)
-      → GatheredSoFar g w begun j mid → j < length mid
+      → FetchedSoFar g w begun j mid → j < length mid
       → LacksOnlyTouched member_words n (others_than j mid) (state_at mid j)
   lacks_at n lacks j mid so_far inside t lent off known =
       let groups : length (in_groups begun) ≡ length begun = length-map begun in_group in
@@ -128,7 +128,7 @@ module _ (g : GroupKeys) (w : World) (group : IsSoundGroup w) (are : AreLogs g (
       let there : j < length begun = omega (arith, inside, so_far.all.len) in
       subst (λ (a : MemberState). (stores a t ≡ true) ⊎ (contains pair_cmp a.hidden (pair_of t) ≡ true))
       (sym (so_far.still j (omega arith)))
-      (subst (λ (x : Member). (member_holds x t ≡ true) ⊎ (member_hides x (pair_of t) ≡ true)) (member_of begun j there)
+      (subst (λ (x : Member). (member_holds x t ≡ true) ⊎ (has_deleted x (pair_of t) ≡ true)) (member_of begun j there)
       (lacks j (omega (arith, there, groups)) t held off))
 
   -- Each has come a part of the way.
@@ -143,7 +143,7 @@ module _ (g : GroupKeys) (w : World) (group : IsSoundGroup w) (are : AreLogs g (
         (all.consistent i inside).sound) (all.each i inside));
   }
 
-  module _ (j : ℕ) (mid : List MemberState) (so_far : GatheredSoFar g w begun j mid) (inside : j < length mid)
+  module _ (j : ℕ) (mid : List MemberState) (so_far : FetchedSoFar g w begun j mid) (inside : j < length mid)
       (new : List MemberState) (set_is : new ≡ set mid j (state_at new j))
       (gains : GainsParts member_words g (logs w) (others_than j mid) (state_at mid j) (state_at new j)) where
     stored : state_at new j ≡ record (state_at mid j) { store = (state_at new j).store }
@@ -239,7 +239,7 @@ module _ (g : GroupKeys) (w : World) (group : IsSoundGroup w) (are : AreLogs g (
           settled g w group are j there (others_than j mid) (state_at mid j) (state_at new j) learnt someones number
           gains left
 
-      pub gathered_more : GatheredSoFar g w begun (j + 1) new
+      pub gathered_more : FetchedSoFar g w begun (j + 1) new
       gathered_more = record {
         all = gathered_part;
         done = λ i l. elim (cases_eq i j) [
@@ -251,9 +251,9 @@ module _ (g : GroupKeys) (w : World) (group : IsSoundGroup w) (are : AreLogs g (
       }
 
       -- However parts count, so much more came.
-      pub sum_more : (weight : Part → ℕ) (n came : ℕ) → n ≡ gain_sum weight w (take j w.members)
+      pub sum_more : (weight : Part → ℕ) (n came : ℕ) → n ≡ new_parts_sum weight w (take j w.members)
           → Counts member_words weight came (state_at mid j) (state_at new j)
-          → n + came ≡ gain_sum weight w (take (j + 1) w.members)
+          → n + came ≡ new_parts_sum weight w (take (j + 1) w.members)
       sum_more weight n came so_many count =
           let held : keys (state_at mid j).store ≡ (member w j).held = ap (λ (m : Member). m.held) learnt in
           let rises : Rises part_cmp (member w j).held = (group.members j there).in_order.held in
@@ -261,13 +261,13 @@ module _ (g : GroupKeys) (w : World) (group : IsSoundGroup w) (are : AreLogs g (
           came_sum w (member w j) rises weight came
           (ap (λ (ts : List Part). came + sum_by weight ts) (sym held) ∙ count
           ∙ ap (λ (m : Member). sum_by weight m.held) settled_here) in
-          let more : gain_sum weight w (take (j + 1) w.members)
-          ≡ gain_sum weight w (take j w.members) + sum_by weight (new_parts w (member w j)) =
+          let more : new_parts_sum weight w (take (j + 1) w.members)
+          ≡ new_parts_sum weight w (take j w.members) + sum_by weight (new_parts w (member w j)) =
           sum_by_more (λ (m : Member). sum_by weight (new_parts w m)) w.members j no_member there in
           omega (arith, one, more, so_many)
 
   -- All have gathered.
-  pub gathered_all : (new : List MemberState) → GatheredSoFar g w begun (length begun) new
+  pub gathered_all : (new : List MemberState) → FetchedSoFar g w begun (length begun) new
       → in_groups new ≡ map (settled_member w) w.members
   gathered_all new h =
       ext_get_or no_member (in_groups new) (map (settled_member w) w.members)
@@ -276,24 +276,24 @@ module _ (g : GroupKeys) (w : World) (group : IsSoundGroup w) (are : AreLogs g (
       member_of new i inside ∙ h.done i (omega (arith, inside, h.all.len))
       ∙ sym (get_or-map (settled_member w) w.members i no_member no_member (omega (arith, inside, h.all.len, long))))
 
-  pub all_sum : (weight : Part → ℕ) (n : ℕ) → n ≡ gain_sum weight w (take (length begun) w.members)
-      → n ≡ gain_sum weight w w.members
+  pub all_sum : (weight : Part → ℕ) (n : ℕ) → n ≡ new_parts_sum weight w (take (length begun) w.members)
+      → n ≡ new_parts_sum weight w w.members
   all_sum weight n e =
       e
-      ∙ ap (λ (k : ℕ). gain_sum weight w (take k w.members)) long
-      ∙ ap (gain_sum weight w) (take_all (length w.members) w.members (omega arith))
+      ∙ ap (λ (k : ℕ). new_parts_sum weight w (take k w.members)) long
+      ∙ ap (new_parts_sum weight w) (take_all (length w.members) w.members (omega arith))
 
 -- Where each counts one, the sum is how many come.
-pub sum_ones : (w : World) → gain_sum one_each w w.members ≡ settle_gains w
+pub sum_ones : (w : World) → new_parts_sum one_each w w.members ≡ settle_new_parts w
 sum_ones w = over w.members where
-  over : (ms : List Member) → gain_sum one_each w ms ≡ sum_by (λ (m : Member). length (new_parts w m)) ms
+  over : (ms : List Member) → new_parts_sum one_each w ms ≡ sum_by (λ (m : Member). length (new_parts w m)) ms
   over [] = refl
   over (m ∷ ms) =
-      let a : gain_sum one_each w (m ∷ ms) ≡ sum_by one_each (new_parts w m) + gain_sum one_each w ms =
+      let a : new_parts_sum one_each w (m ∷ ms) ≡ sum_by one_each (new_parts w m) + new_parts_sum one_each w ms =
       sum_by-cons (λ (x : Member). sum_by one_each (new_parts w x)) m ms in
       let b : sum_by (λ (x : Member). length (new_parts w x)) (m ∷ ms)
       ≡ length (new_parts w m) + sum_by (λ (x : Member). length (new_parts w x)) ms =
       sum_by-cons (λ (x : Member). length (new_parts w x)) m ms in
       let c : sum_by one_each (new_parts w m) ≡ length (new_parts w m) = ones (new_parts w m) in
-      let rest : gain_sum one_each w ms ≡ sum_by (λ (x : Member). length (new_parts w x)) ms = over ms in
+      let rest : new_parts_sum one_each w ms ≡ sum_by (λ (x : Member). length (new_parts w x)) ms = over ms in
       omega (arith, a, b, c, rest)

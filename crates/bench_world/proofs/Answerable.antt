@@ -21,7 +21,7 @@ use Rattle.ndn_data.specs.Data.{Data, data_of, Satisfies}
 use Rattle.svs_vector.specs.Rosters.{has_same_octets}
 use Rattle.repo_plan.specs.declared.part.Part.{Part}
 use Rattle.sorted_lists.specs.SortedList.{keys, value_of, contains}
-use Rattle.repo_plan.specs.Parts.{Pair, part_cmp, pair_of, index_packets, parts_after}
+use Rattle.repo_plan.specs.Parts.{Pair, part_cmp, pair_of, index_packets, last_part}
 use Rattle.repo_plan.specs.Plan.{claim_of, is_wanted}
 use Rattle.repo_object.specs.Objects.{Post, IsPost, offered, shape_in, Publisher, IsPublisher, record_name}
 use Rattle.repo_object.specs.Objects.{segment_name}
@@ -37,11 +37,11 @@ use Rattle.repo_store.specs.Served.{satisfies, first_served, served_entry, serve
 use Rattle.repo_store.proofs.LawLemmas.{satisfies-Decides, served_least, served_of_part, has_value}
 use Rattle.group_model.specs.Publications.{Logs, no_object, post_at, shape_at}
 use Rattle.group_model.specs.Sound.{IsPublished, IsPublishedPart}
-use Rattle.group_model.specs.Member.{Member, member_holds, member_hides, plan_of}
-use Rattle.group_model.specs.Events.{Came}
-use Rattle.group_model.specs.Events.Came.{Its}
+use Rattle.group_model.specs.Member.{Member, member_holds, has_deleted, plan_of}
+use Rattle.group_model.specs.Events.{Response}
+use Rattle.group_model.specs.Events.Response.{Its}
 use Rattle.group_model.specs.World.{member}
-use Rattle.group_model.specs.Steps.{claim_at, came_from, passes_checks}
+use Rattle.group_model.specs.Steps.{claim_at, response_from, passes_checks}
 use Rattle.group_model.specs.Refusals.{if_idle_or_foreign}
 use Rattle.group_model.proofs.PublicLaws.{publisher_holds}
 use Rattle.repo_member.specs.Groups.{GroupKeys, IsPlainNodeName, node_at, publisher_at}
@@ -51,9 +51,9 @@ use Rattle.repo_member.specs.InGroup.{in_group, AreLogs, published_packet}
 use Rattle.repo_member.specs.ConsistentMembers.{IsConsistentMember, published_want}
 use Rattle.repo_member.proofs.PublicLaws.{stores_those}
 use Rattle.bench_world.specs.Worlds.{GroupState, IsConsistentState, state_at, in_groups, logs_around, world_of}
-use Rattle.bench_world.specs.Serving.{judged_packet, found, came_of, keyed}
-use Rattle.bench_world.specs.EventValues.{answer_reported}
-use Rattle.bench_world.specs.Answerable.{AreAllCollisionFree, IsKept}
+use Rattle.bench_world.specs.Serving.{packet_response, found, holder_packet_response, lossless}
+use Rattle.bench_world.specs.EventValues.{answer_report}
+use Rattle.bench_world.specs.Answerable.{AreAllCollisionFree, IsAnswerStored}
 use Rattle.bench_world.proofs.States.{member_at, many_logs, sound_state}
 use Rattle.bench_world.proofs.ClaimedPackets.{publisher_there, post_within, packet_is, its_octets, claim_published}
 
@@ -139,11 +139,11 @@ module _ (g : GroupKeys) (t : Part) (is_publisher : IsPublisher (publisher_at g 
         }
 
     after_record : (post : Post) (octets : List ℕ) → IsPost t.seq post → packet_at own t.seq post t.part ≡ Some octets
-        → 0 < t.part → t.part ≤ parts_after (shape_in post) → (is_index : Bool)
+        → 0 < t.part → t.part ≤ last_part (shape_in post) → (is_index : Bool)
         → nat_le t.part (shape_in post).index ≡ is_index
         → ComesAfter own post t octets (want_by g post t octets false is_index)
     after_record (Withdraws seq) octets is_post its above counted is_index e =
-        let none : parts_after (shape_in (Withdraws seq)) ≡ 0 = refl in absurd (omega (arith, above, counted, none))
+        let none : last_part (shape_in (Withdraws seq)) ≡ 0 = refl in absurd (omega (arith, above, counted, none))
     after_record (Offers object) octets is_post its above counted true e =
         let below : t.part ≤ index_packets (length object.contents) =
         leb-true t.part (index_packets (length object.contents)) e in
@@ -381,9 +381,9 @@ module _ (g : GroupKeys) (logs : Logs) (are : AreLogs g logs) where
 
     pub gives_its : AreAllCollisionFree g logs → (t : Part) → IsPublishedPart logs t
         → contains part_cmp (keys a.store) t ≡ true
-        → came_of g logs (keys a.store) t ≡ Its
+        → holder_packet_response g logs (keys a.store) t ≡ Its
     gives_its clear t is holds =
-        ap (λ (es : List Packet). judged_packet g logs t (found (served (published_want g logs t).interest es)))
+        ap (λ (es : List Packet). packet_response g logs t (found (served (published_want g logs t).interest es)))
         (sym (stores_those g logs a consistent))
         ∙ go (option_map (λ s. s.0) (first_served asking a.store))
         (first_is (published_want g logs t).interest asking interest) where
@@ -406,7 +406,7 @@ module _ (g : GroupKeys) (logs : Logs) (are : AreLogs g logs) where
           stored (Some x) e = e ∙ sym (consistent.packets t x e) ∙ packet_is g logs t are is
 
           go : (o : Option Part) → served_part (published_want g logs t).interest a.store ≡ Ok o
-              → judged_packet g logs t (found (served (published_want g logs t).interest a.store)) ≡ Its
+              → packet_response g logs t (found (served (published_want g logs t).interest a.store)) ≡ Its
           go None e =
               let none =
               served_least (published_want g logs t).interest a.store
@@ -424,7 +424,7 @@ module _ (g : GroupKeys) (logs : Logs) (are : AreLogs g logs) where
               asked_is clear t u is (stored_there u found_u.octets found_u.stored)
               (unwrap_or (published_packet g logs t) [])
               found_u.octets its (consistent.packets u found_u.octets found_u.stored) found_u.satisfied in
-              ap (λ (r : Result (Option (List ℕ)) PacketFault). judged_packet g logs t (found r))
+              ap (λ (r : Result (Option (List ℕ)) PacketFault). packet_response g logs t (found r))
               (served_of_part (published_want g logs t).interest a.store u consistent.sound.in_order.held e
               ∙ ap (λ (o : Option (List ℕ)). let r : Result (Option (List ℕ)) PacketFault = Ok o in r) found_u.stored)
               ∙ its_octets g logs t are is found_u.octets
@@ -438,23 +438,25 @@ module _ (s : GroupState) (is : IsConsistentState s) (clear : AreAllCollisionFre
   claimed : claim_of (member_plan (state_at s.members j)) f ≡ Some t
   claimed = sym (ap (λ (x : Member). get_or x.claims (f - 1) None) (member_at s.members j)) ∙ claim
 
-  pub held_is_kept : (q : ℕ) → q < length s.members → member_holds (member (world_of s) q) t ≡ true → IsKept s j f q
+  pub held_is_kept : (q : ℕ) → q < length s.members → member_holds (member (world_of s) q) t ≡ true
+      → IsAnswerStored s j f q
   held_is_kept q other holds =
       let published =
       claim_published s.keys (logs_around s.members) (state_at s.members j) is.are (is.members j there) f t claimed in
       let stored : contains part_cmp (keys (state_at s.members q).store) t ≡ true =
       sym (ap (λ (x : Member). contains part_cmp x.held t) (member_at s.members q)) ∙ holds in
-      let came : came_from (keyed s.keys) (world_of s) q (claim_at (world_of s) j f) ≡ Its =
-      ap (came_from (keyed s.keys) (world_of s) q) claim
-      ∙ ap (λ (x : Member). came_of s.keys (logs_around s.members) x.held t) (member_at s.members q)
+      let came : response_from (lossless s.keys) (world_of s) q (claim_at (world_of s) j f) ≡ Its =
+      ap (response_from (lossless s.keys) (world_of s) q) claim
+      ∙ ap (λ (x : Member). holder_packet_response s.keys (logs_around s.members) x.held t) (member_at s.members q)
       ∙ gives_its s.keys (logs_around s.members) is.are (state_at s.members q) (is.members q other) clear t published
       stored in
       record {
         taken = λ i. if_idle_or_foreign (claim i) (came i);
-        reported = ap (λ (k : Came). answer_reported j f (passes_checks k)) came;
+        report = ap (λ (k : Response). answer_report j f (passes_checks k)) came;
       }
 
-  pub publisher_is_kept : IsKept s j f t.publisher ⊎ (member_hides (member (world_of s) t.publisher) (pair_of t) ≡ true)
+  pub publisher_is_kept : IsAnswerStored s j f t.publisher
+      ⊎ (has_deleted (member (world_of s) t.publisher) (pair_of t) ≡ true)
   publisher_is_kept =
       let published =
       claim_published s.keys (logs_around s.members) (state_at s.members j) is.are (is.members j there) f t claimed in
@@ -465,7 +467,7 @@ module _ (s : GroupState) (is : IsConsistentState s) (clear : AreAllCollisionFre
       subst (λ (n : ℕ). j < n) (sym (length-map s.members in_group)) there in
       let wanted : is_wanted (plan_of (logs_around s.members) (member (world_of s) j)) t ≡ true =
       ((sound_state s is).members j among).claimed (f - 1) t claim in
-      elim (publisher_holds (keyed s.keys) (world_of s) (sound_state s is) j t among wanted) [
+      elim (publisher_holds (lossless s.keys) (world_of s) (sound_state s is) j t among wanted) [
         | inl holds ↦ inl (held_is_kept t.publisher other holds)
         | inr hidden ↦ inr hidden
       ]

@@ -33,12 +33,12 @@ use Rattle.repo_member.specs.declared.refusals.PublishRefusal.{PublishRefusal}
 use Rattle.repo_member.specs.declared.refusals.PublishRefusal.TheVariants.{NumbersSpent}
 use Rattle.repo_member.specs.MemberState.{MemberState, member_publishes}
 use Rattle.repo_member.specs.Blocks as own
-use Rattle.repo_member.specs.Blocks.{member_block, member_keeps, member_blocks, CompletesAnObject, ReportsBlock}
+use Rattle.repo_member.specs.Blocks.{member_block, member_keeps, member_blocks, CompletesAnObject, IsBlockAnswer}
 use Rattle.repo_member.specs.InGroup.{in_group}
 use Rattle.repo_member.specs.ConsistentMembers.{IsConsistentMember}
 use Rattle.repo_member.proofs.PublicLaws.{block_states_alike, inserts_consistent}
-use Rattle.bench_world.specs.Blocks.{after_blocked, blocked_reported}
-use Rattle.bench_world.specs.EventValues.{Reported, block_reported}
+use Rattle.bench_world.specs.Blocks.{after_blocked, blocked_report}
+use Rattle.bench_world.specs.EventValues.{ReportValue, block_report}
 use Rattle.bench_world.specs.declared.touched.Touched.{Touched}
 use Rattle.bench_world.specs.Touching.{touches, NotesAny, blocked_pair}
 use Rattle.bench_world.specs.Worlds.{GroupState, IsConsistentState, IsConsistentSync, nobody, state_at, in_groups}
@@ -130,26 +130,26 @@ module _ (s : GroupState) (is : IsConsistentState s) (m : ℕ) (there : m < leng
 
 module _ (s : GroupState) (is : IsConsistentState s) (m : ℕ) (there : m < length s.members) (old : MemberState)
     (old_is : old ≡ get_or s.members m old) (process index : ℕ) (content : List ℕ) where
-  abbrev comes_to : BlockState
-  comes_to = member_block old process index content
+  abbrev becomes : BlockState
+  becomes = member_block old process index content
 
   abbrev event : Event
   event = Event.Block m process index content
 
-  state_is : block_at (world_of s) m process index content ≡ comes_to
+  state_is : block_at (world_of s) m process index content ≡ becomes
   state_is = block_states_alike (world_of s) m process index content old (in_world s is m there old old_is)
 
   abbrev IsSpent : {A : Type 0} → Result A PublishRefusal → Type 0
   IsSpent r =
       (log : ℕ)
-      → (r ≡ Err (NumbersSpent log)) ↔ (IsTrue (is_last comes_to) × (log ≡ length old.log) × (65535 ≤ length old.log))
+      → (r ≡ Err (NumbersSpent log)) ↔ (IsTrue (is_last becomes) × (log ≡ length old.log) × (65535 ≤ length old.log))
 
   -- It is refused where it would complete an object and all numbers are spent.
   pub block_refused : {A : Type 0} (draw : ℕ → ℕ → ℕ) (r : Result A PublishRefusal) (log : ℕ)
       → r ≡ Err (NumbersSpent log) → IsSpent r → refusal (drawing draw) (world_of s) event ≡ Some Refusal.NumbersSpent
   block_refused draw r log is_err spent =
       let all = (spent log).0 is_err in
-      ap (if_whole (world_of s) m) state_is ∙ go comes_to all.0 all.2 where
+      ap (if_whole (world_of s) m) state_is ∙ go becomes all.0 all.2 where
         go : (x : BlockState) → IsTrue (is_last x) → 65535 ≤ length old.log
             → if_whole (world_of s) m x ≡ Some Refusal.NumbersSpent
         go Unknown h most = absurd cc
@@ -162,7 +162,7 @@ module _ (s : GroupState) (is : IsConsistentState s) (m : ℕ) (there : m < leng
 
   -- One that is taken finds a number where it completes an object.
   pub finds_number : {A : Type 0} (r : Result A PublishRefusal) (x : A) → r ≡ Ok x → IsSpent r
-      → IsTrue (is_last comes_to) → length old.log < 65535
+      → IsTrue (is_last becomes) → length old.log < 65535
   finds_number r x is_ok spent last = elim (cases_Bool (nat_le 65535 (length old.log))) [
     | inl most ↦
         absurd (let e : r ≡ Err (NumbersSpent (length old.log)) =
@@ -171,9 +171,9 @@ module _ (s : GroupState) (is : IsConsistentState s) (m : ℕ) (there : m < leng
     | inr less ↦ leb-false 65535 (length old.log) less
   ]
 
-  module _ (room : IsTrue (is_last comes_to) → length old.log < 65535) where
+  module _ (room : IsTrue (is_last becomes) → length old.log < 65535) where
     pub block_taken : (draw : ℕ → ℕ → ℕ) → refusal (drawing draw) (world_of s) event ≡ None
-    block_taken draw = ap (if_whole (world_of s) m) state_is ∙ go comes_to room where
+    block_taken draw = ap (if_whole (world_of s) m) state_is ∙ go becomes room where
       go : (x : BlockState) → (IsTrue (is_last x) → length old.log < 65535) → if_whole (world_of s) m x ≡ None
       go Unknown h = refl
       go Already h = refl
@@ -189,35 +189,36 @@ module _ (s : GroupState) (is : IsConsistentState s) (m : ℕ) (there : m < leng
 
     module _ (b : MemberState) (draw : ℕ → ℕ → ℕ) (n : ℕ) (n_is : n ≡ draw m old.machine.draws)
         (b_is : b ≡ member_blocks s.keys process index content s.time n old)
-        (x : Blocked) (tells : ReportsBlock s.keys old b comes_to x) where
+        (x : Blocked) (tells : IsBlockAnswer s.keys old b becomes x) where
       -- What is reported of it.
-      pub reported_so : (reported : Reported) (k : ℕ) → reported ≡ blocked_reported m k x → k ≡ length s.sent + 1
-          → reported ≡ block_reported m (next_seq_at (world_of s) m) (next_sync (world_of s))
+      pub reported_so : (received : ReportValue) (k : ℕ) → received ≡ blocked_report m k x → k ≡ length s.sent + 1
+          → received ≡ block_report m (next_seq_at (world_of s) m) (next_sync (world_of s))
           (block_at (world_of s) m process index content)
-      reported_so reported k e k_is =
+      reported_so received k e k_is =
           e
-          ∙ go comes_to x tells
-          ∙ ap (block_reported m (next_seq_at (world_of s) m) (next_sync (world_of s))) (sym state_is) where
+          ∙ go becomes x tells
+          ∙ ap (block_report m (next_seq_at (world_of s) m) (next_sync (world_of s))) (sym state_is) where
             seq_so : (seq : ℕ) → seq ≡ length old.log + 1 → seq ≡ next_seq_at (world_of s) m
             seq_so seq h = let l = log_is s is m there old old_is in omega (arith, h, l)
 
             sync_so : k ≡ next_sync (world_of s)
             sync_so = let l = length-map s.sent sync_in in omega (arith, k_is, l)
 
-            go : (c : BlockState) (y : Blocked) → ReportsBlock s.keys old b c y
-                → blocked_reported m k y ≡ block_reported m (next_seq_at (world_of s) m) (next_sync (world_of s)) c
+            go : (c : BlockState) (y : Blocked) → IsBlockAnswer s.keys old b c y
+                → blocked_report m k y ≡ block_report m (next_seq_at (world_of s) m) (next_sync (world_of s)) c
             go Unknown blocked.Unknown t = refl
             go Already blocked.Already t = refl
             go (Waiting p) blocked.Waiting t = refl
-            go (Whole p) (blocked.Published one) t = λ i. Reported.BlockPublished m (seq_so one.seq t.0 i) (sync_so i)
+            go (Whole p) (blocked.Published one) t =
+                λ i. ReportValue.BlockPublished m (seq_so one.seq t.0 i) (sync_so i)
             go _ _ t = absurd t
 
       -- What it published is noted.
       pub noted_so : (n later : Touched) → NotesAny n (blocked_pair m x) later
           → (p : Process) → block_at (world_of s) m process index content ≡ Whole p
           → touches later (m, length (member (world_of s) m).log + 1) ≡ true
-      noted_so n later notes p whole = go comes_to x tells notes (sym state_is ∙ whole) where
-        go : (c : BlockState) (y : Blocked) → ReportsBlock s.keys old b c y → NotesAny n (blocked_pair m y) later
+      noted_so n later notes p whole = go becomes x tells notes (sym state_is ∙ whole) where
+        go : (c : BlockState) (y : Blocked) → IsBlockAnswer s.keys old b c y → NotesAny n (blocked_pair m y) later
             → c ≡ Whole p → touches later (m, length (member (world_of s) m).log + 1) ≡ true
         go (Whole q) (blocked.Published one) t noted e =
             let l = log_is s is m there old old_is in
@@ -228,7 +229,7 @@ module _ (s : GroupState) (is : IsConsistentState s) (m : ℕ) (there : m < leng
         go (Waiting q) y t noted e = absurd cc
         go _ _ t noted e = absurd t
 
-      module _ (few : s.steps < 100000) (objects : CompletesAnObject comes_to) (sent reserved : List SentPacket)
+      module _ (few : s.steps < 100000) (objects : CompletesAnObject becomes) (sent reserved : List SentPacket)
           (vector : List ℕ)
           (reserved_is : reserved ≡ s.sent) (vector_is : vector ≡ old.known)
           (sent_from : sent ≡ after_blocked m vector x reserved) where
@@ -277,7 +278,7 @@ module _ (s : GroupState) (is : IsConsistentState s) (m : ℕ) (there : m < leng
         -- the object is published by the member with a closed process
         publishes : (p : Process) → length (indexes p) ≤ 200 → IsObject (object_of p) → length old.log < 65535
             → b ≡ own.member_publishes_whole s.keys process s.time n p old → (y : Blocked)
-            → ReportsBlock s.keys old b (Whole p) y → sent ≡ after_blocked m old.known y s.sent
+            → IsBlockAnswer s.keys old b (Whole p) y → sent ≡ after_blocked m old.known y s.sent
             → IsAfter (after_publish (drawing draw) (with_process_at (world_of s) m process (closed p)) m
             (Offers (object_of p)))
         publishes p short object less e (blocked.Published one) t so =
@@ -291,7 +292,7 @@ module _ (s : GroupState) (is : IsConsistentState s) (m : ℕ) (there : m < leng
             e
             ∙ ap (λ (c : Bool). cond c (member_publishes s.keys (Offers (object_of p)) s.time n now) old)
             (lt-ltb (length old.log) 65535 less) in
-            let reported : sent ≡ s1.sent ++ _ =
+            let received : sent ≡ s1.sent ++ _ =
             sent_is s1 is1 m there1 now now_is b draw n n_is (Offers (object_of p)) b_now sent s.sent old.known one.seq
             one.sync.items refl refl t.0 t.1 so in
             let twice : set s1.members m b ≡ set s.members m b = set-set s.members m now b in
@@ -299,7 +300,7 @@ module _ (s : GroupState) (is : IsConsistentState s) (m : ℕ) (there : m < leng
               world =
                   ap (λ (ms : List MemberState). world_of (record s { members = ms; sent = sent; steps = s.steps + 1 }))
                   (sym twice)
-                  ∙ world_sent s1 is1 m there1 now now_is b draw n n_is (Offers (object_of p)) b_now sent reported
+                  ∙ world_sent s1 is1 m there1 now now_is b draw n n_is (Offers (object_of p)) b_now sent received
                   ∙ ap (λ (w : World). after_publish (drawing draw) w m (Offers (object_of p)))
                   (keeping_world s is m there old old_is process (closed p));
               state =
@@ -307,17 +308,17 @@ module _ (s : GroupState) (is : IsConsistentState s) (m : ℕ) (there : m < leng
                   (record s { members = ms; sent = sent; steps = s.steps + 1 }))
                   twice
                   (state_sent s1 is1 m there1 now now_is b draw n n_is (Offers (object_of p)) b_now few object less
-                  sent reported);
+                  sent received);
             }
         publishes p short object less e _ t so = absurd t
 
         pub after_so : IsAfter (after_event (drawing draw) (world_of s) event)
         after_so =
             subst IsAfter (sym is_event)
-            (go comes_to short_blocks (sym is_event) room b_is objects x tells
+            (go becomes short_blocks (sym is_event) room b_is objects x tells
             (sent_from ∙ (λ i. after_blocked m (vector_is i) x (reserved_is i)))) where
               is_event : after_event (drawing draw) (world_of s) event
-                  ≡ after_block (drawing draw) (world_of s) m process comes_to
+                  ≡ after_block (drawing draw) (world_of s) m process becomes
               is_event = ap (after_block (drawing draw) (world_of s) m process) state_is
 
               within : IsMemberWithin s.steps (in_group old)
@@ -326,7 +327,7 @@ module _ (s : GroupState) (is : IsConsistentState s) (m : ℕ) (there : m < leng
                   (sym (old_at s is m there old old_is))
                   (member_within s is m)
 
-              short_blocks : HasFewBlocks comes_to
+              short_blocks : HasFewBlocks becomes
               short_blocks =
                   few_in index content (value_of nat_cmp old.insertions.processes process) (within.blocks process)
 
@@ -334,7 +335,7 @@ module _ (s : GroupState) (is : IsConsistentState s) (m : ℕ) (there : m < leng
                   → after_block (drawing draw) (world_of s) m process c ≡ after_event (drawing draw) (world_of s) event
                   → (IsTrue (is_last c) → length old.log < 65535) → b ≡ own.after_block s.keys process s.time n old c
                   → CompletesAnObject c
-                  → (y : Blocked) → ReportsBlock s.keys old b c y → sent ≡ after_blocked m old.known y s.sent
+                  → (y : Blocked) → IsBlockAnswer s.keys old b c y → sent ≡ after_blocked m old.known y s.sent
                   → IsAfter (after_block (drawing draw) (world_of s) m process c)
               go (Whole p) short w_is h e object y t so = publishes p short object (h refl) e y t so
               go Unknown short w_is h e object blocked.Unknown t so = still w_is e so

@@ -20,11 +20,11 @@ use Rattle.repo_object.specs.declared.part_refusal.PartRefusal.{PartRefusal}
 use Rattle.repo_object.specs.Wants.{WantedPart}
 use Rattle.repo_object.specs.Verdict.{ring_verdict, CheckedPart, checked_part}
 use Rattle.group_model.specs.Publications.{Logs, no_post, count, post_at, shape_at}
-use Rattle.group_model.specs.Member.{member_holds, member_hides}
+use Rattle.group_model.specs.Member.{member_holds, has_deleted}
 use Rattle.group_model.specs.Sound.{IsPublished, IsPublishedPart}
 use Rattle.group_model.specs.Wanted.{IsWantedPart}
-use Rattle.group_model.specs.Events.{Came}
-use Rattle.group_model.specs.Events.Came.{Nothing, Its, Another}
+use Rattle.group_model.specs.Events.{Response}
+use Rattle.group_model.specs.Events.Response.{Nothing, Its, Another}
 use Rattle.group_model.proofs.PublicLaws.{parts_are_those, tests_those}
 use Rattle.repo_object.specs.Objects.{Post, IsPost, key_name}
 use Rattle.repo_object.specs.Wants.{want_record, want_index, want_segment}
@@ -41,7 +41,7 @@ use Rattle.bench_world.specs.declared.event.EventError.{EventError}
 use Rattle.bench_world.specs.declared.answering.Fed.{Fed}
 use Rattle.bench_world.specs.declared.answering.Fed.TheVariants.{Kept}
 use Rattle.bench_world.specs.Sizes.{size_of}
-use Rattle.bench_world.specs.Serving.{octets_as}
+use Rattle.bench_world.specs.Serving.{octets_response}
 use Rattle.bench_world.specs.Answering.{answered, fed_by, fed_as, accepts_claimed}
 use Rattle.bench_world.proofs.PhaseOutcomes.{want_part}
 
@@ -92,7 +92,7 @@ module _ (g : GroupKeys) (logs : Logs) (t : Part) (are : AreLogs g logs) (is : I
     octets_are = (bytes_eq-Decides octets (unwrap_or (published_packet g logs t) [])).0 same
 
     -- They pass, so they are given as the publisher's.
-    pub its_octets : octets_as g logs t octets ≡ Its
+    pub its_octets : octets_response g logs t octets ≡ Its
     its_octets =
         let its : published_packet g logs t ≡ Some octets =
         packet_is ∙ ap (λ (o : List ℕ). let p : Option (List ℕ) = Some o in p) (sym octets_are) in
@@ -122,7 +122,7 @@ module _ (g : GroupKeys) (logs : Logs) (t : Part) (octets : List ℕ) where
   -- They don't pass.
   pub refused_nothing : (refusal : PartRefusal) → ring_verdict (published_want g logs t) g.members.ring octets
       ≡ Err refusal
-      → octets_as g logs t octets ≡ Nothing
+      → octets_response g logs t octets ≡ Nothing
   refused_nothing refusal e =
       ap (λ (r : Result Data PartRefusal).
       cond (is_ok r) (cond (bytes_eq octets (unwrap_or (published_packet g logs t) [])) Its Another) Nothing) e
@@ -139,7 +139,7 @@ module _ (g : GroupKeys) (logs : Logs) (t : Part) (octets : List ℕ) where
     go (Err refusal) k = absurd (true≢false (sym k))
 
   pub passed_another : IsOk (ring_verdict (published_want g logs t) g.members.ring octets)
-      → bytes_eq octets (unwrap_or (published_packet g logs t) []) ≡ false → octets_as g logs t octets ≡ Another
+      → bytes_eq octets (unwrap_or (published_packet g logs t) []) ≡ false → octets_response g logs t octets ≡ Another
   passed_another h other =
       go (ring_verdict (published_want g logs t) g.members.ring octets) h
       ∙ ap (λ (b : Bool). cond b Its Another) other where
@@ -172,11 +172,11 @@ module _ (g : GroupKeys) (logs : Logs) (a : MemberState) (are : AreLogs g logs)
       let is : IsWantedPart logs (in_group a) t =
       (tests_those logs (in_group a) t (λ u h. (consistent.sound.held u h).with_record)).0
       (consistent.sound.claimed (f - 1) t claim) in
-      let own_held : (member_hides (in_group a) (t.publisher, t.seq) ≡ true)
+      let own_held : (has_deleted (in_group a) (t.publisher, t.seq) ≡ true)
       ⊎ ((x : ℕ) → x ≤ count logs (t.publisher, t.seq)
       → member_holds (in_group a) (part_of (t.publisher, t.seq) x) ≡ true) =
       subst (λ (p : ℕ). IsPublished logs (p, t.seq)
-      → (member_hides (in_group a) (p, t.seq) ≡ true)
+      → (has_deleted (in_group a) (p, t.seq) ≡ true)
       ⊎ ((x : ℕ) → x ≤ count logs (p, t.seq) → member_holds (in_group a) (part_of (p, t.seq) x) ≡ true)) (sym own)
       (consistent.sound.own_held t.seq) claim_published.there in
       elim own_held [
@@ -186,10 +186,11 @@ module _ (g : GroupKeys) (logs : Logs) (a : MemberState) (are : AreLogs g logs)
 
   -- The packet of the part is accepted, where octets that are it came.
   pub accepts_its : (octets : List ℕ) → bytes_eq octets (unwrap_or (published_packet g logs t) []) ≡ true
-      → member_accepts f t octets a ≡ accepts_claimed g logs f t (octets_as g logs t octets) a
+      → member_accepts f t octets a ≡ accepts_claimed g logs f t (octets_response g logs t octets) a
   accepts_its octets same =
       ap (λ (o : List ℕ). member_accepts f t o a) (octets_are g logs t are claim_published octets same)
-      ∙ ap (λ (c : Came). accepts_claimed g logs f t c a) (sym (its_octets g logs t are claim_published octets same))
+      ∙ ap (λ (c : Response). accepts_claimed g logs f t c a)
+      (sym (its_octets g logs t are claim_published octets same))
 
   -- The ring has its publisher's key.
   pub key_there : t.publisher < length g.members.ring
@@ -255,7 +256,7 @@ module _ (g : GroupKeys) (logs : Logs) (a : MemberState) (are : AreLogs g logs)
 
   -- What is kept has the size of the part's packet.
   pub keeps_its : (octets : List ℕ) → bytes_eq octets (unwrap_or (published_packet g logs t) []) ≡ true
-      → answered g logs (Some t) (octets_as g logs t octets) ≡ Ok (Some (length octets))
+      → answered g logs (Some t) (octets_response g logs t octets) ≡ Ok (Some (length octets))
   keeps_its octets same =
       ap (answered g logs (Some t)) (its_octets g logs t are (claim_published g logs a are consistent f t claim) octets
       same)

@@ -11,8 +11,8 @@ use Rattle.repo_plan.specs.Parts.{pair_of}
 use Rattle.repo_object.specs.Wants.{WantedPart}
 use Rattle.repo_store.specs.Served.{served}
 use Rattle.group_model.specs.Publications.{Logs}
-use Rattle.group_model.specs.Events.{Came}
-use Rattle.group_model.specs.Events.Came.{Nothing, Its, Another}
+use Rattle.group_model.specs.Events.{Response}
+use Rattle.group_model.specs.Events.Response.{Nothing, Its, Another}
 use Rattle.repo_member.specs.Groups.{GroupKeys}
 use Rattle.repo_member.specs.Records.{Packet}
 use Rattle.repo_member.specs.MemberState.{MemberState, member_plan}
@@ -22,8 +22,9 @@ use Rattle.bench_world.specs.declared.event.EventError.{EventError}
 use Rattle.bench_world.specs.declared.answering.Fed.{Fed}
 use Rattle.bench_world.specs.Worlds.{nobody, state_at}
 use Rattle.bench_world.specs.Conditions.{CanAccept, CanGetAt}
-use Rattle.bench_world.specs.Serving.{octets_as, judged_packet, found}
-use Rattle.bench_world.specs.Answering.{answered, claim_in, came_in, came_for, fed_as, kept_of, accepts_claimed}
+use Rattle.bench_world.specs.Serving.{octets_response, packet_response, found}
+use Rattle.bench_world.specs.Answering.{answered, claim_in, holder_response, outside_response, fed_as, kept_of}
+use Rattle.bench_world.specs.Answering.{accepts_claimed}
 use Rattle.bench_world.specs.Answering.{after_claimed}
 use Rattle.bench_world.proofs.ClaimedPackets.{claim_published, claim_of_another, publisher_there}
 use Rattle.bench_world.proofs.TakenOut.{put_in, put_back}
@@ -68,32 +69,33 @@ module _ (g : GroupKeys) (logs : Logs) (f m : ℕ) (ms : List MemberState) (can 
 
     -- What a member serves is what the group says that it gives.
     pub served_is : (q : ℕ) → q < length ms → (b : MemberState) → b ≡ state_at ms q
-        → judged_packet g logs want.part (found (served want.interest b.store)) ≡ came_in g logs ms q (claim_in ms m f)
+        → packet_response g logs want.part (found (served want.interest b.store))
+        ≡ holder_response g logs ms q (claim_in ms m f)
     served_is q other b b_is =
-        ap (λ (a : MemberState). judged_packet g logs want.part (found (served want.interest a.store))) b_is
-        ∙ ap (λ (es : List Packet). judged_packet g logs want.part (found (served want.interest es)))
+        ap (λ (a : MemberState). packet_response g logs want.part (found (served want.interest a.store))) b_is
+        ∙ ap (λ (es : List Packet). packet_response g logs want.part (found (served want.interest es)))
         (stores_those g logs (state_at ms q) (can.consistent q other))
         ∙ ap (λ (w : WantedPart).
-        judged_packet g logs want.part (found (served w.interest
+        packet_response g logs want.part (found (served w.interest
         (published_packets g logs (keys (state_at ms q).store)))))
         want_is
-        ∙ ap (came_in g logs ms q) (sym claim)
+        ∙ ap (holder_response g logs ms q) (sym claim)
 
   -- ---- by what came
 
-  module _ (came k : Came) (same : k ≡ came) where
+  module _ (came k : Response) (same : k ≡ came) where
     pub kept_so : {E : Type 0} (r : Result (Option ℕ) E) → IfOk r (λ kept. answered g logs (Some want.part) k ≡ Ok kept)
         → IfOk r (λ kept. answered g logs (claim_in ms m f) came ≡ Ok kept)
     kept_so r h =
         subst (λ (o : Option Part). IfOk r (λ kept. answered g logs o came ≡ Ok kept)) (sym claim)
-        (subst (λ (c : Came). IfOk r (λ kept. answered g logs (Some want.part) c ≡ Ok kept)) same h)
+        (subst (λ (c : Response). IfOk r (λ kept. answered g logs (Some want.part) c ≡ Ok kept)) same h)
 
     pub fed_so : {E : Type 0} (octets : List ℕ) (r : Result Fed E)
         → IfOk r (λ fed. answered g logs (Some want.part) k ≡ Ok (kept_of octets fed))
         → IfOk r (λ fed. answered g logs (claim_in ms m f) came ≡ Ok (kept_of octets fed))
     fed_so octets r h =
         subst (λ (o : Option Part). IfOk r (λ fed. answered g logs o came ≡ Ok (kept_of octets fed))) (sym claim)
-        (subst (λ (c : Came). IfOk r (λ fed. answered g logs (Some want.part) c ≡ Ok (kept_of octets fed))) same h)
+        (subst (λ (c : Response). IfOk r (λ fed. answered g logs (Some want.part) c ≡ Ok (kept_of octets fed))) same h)
 
     pub refused_so : {T : Type 0} (r : Result T EventError)
         → IfErr r (λ fault. (fault ≡ EventError.NoMemory) ⊎ (answered g logs (Some want.part) k ≡ Err fault))
@@ -102,7 +104,7 @@ module _ (g : GroupKeys) (logs : Logs) (f m : ℕ) (ms : List MemberState) (can 
         subst
         (λ (o : Option Part). IfErr r (λ fault. (fault ≡ EventError.NoMemory) ⊎ (answered g logs o came ≡ Err fault)))
         (sym claim)
-        (subst (λ (c : Came).
+        (subst (λ (c : Response).
         IfErr r (λ fault. (fault ≡ EventError.NoMemory) ⊎ (answered g logs (Some want.part) c ≡ Err fault))) same h)
 
     module _ (mid new : List MemberState) (x y : MemberState) (x_is : x ≡ state_at ms m) (mid_is : mid ≡ remove ms m)
@@ -112,14 +114,14 @@ module _ (g : GroupKeys) (logs : Logs) (f m : ℕ) (ms : List MemberState) (can 
       members_so r = on_ok_weaker r (λ e.
           put_in ms mid new m y can.there mid_is new_is
           ∙ ap (set ms m) (e ∙ ap (accepts_claimed g logs f want.part k) x_is
-          ∙ ap (λ (c : Came). accepts_claimed g logs f want.part c (state_at ms m)) same
+          ∙ ap (λ (c : Response). accepts_claimed g logs f want.part c (state_at ms m)) same
           ∙ ap (λ (o : Option Part). after_claimed g logs f o came (state_at ms m)) (sym claim)))
 
       pub still_so : {T E : Type 0} (r : Result T E) → OnErr r (y ≡ x) → OnErr r (new ≡ ms)
       still_so r = on_err_weaker r (λ e. put_back nobody ms mid new m y can.there mid_is new_is (e ∙ x_is))
 
   -- It isn't refused for want of a claim.
-  pub busy_so : {T : Type 0} (k : Came) (r : Result T EventError)
+  pub busy_so : {T : Type 0} (k : Response) (r : Result T EventError)
       → IfErr r (λ fault. (fault ≡ EventError.NoMemory) ⊎ (answered g logs (Some want.part) k ≡ Err fault))
       → (r ≡ Err EventError.FetcherIdle → claim_in ms m f ≡ None)
       × (claim_in ms m f ≡ None → r ≡ Err EventError.FetcherIdle)
@@ -133,7 +135,7 @@ module _ (g : GroupKeys) (logs : Logs) (f m : ℕ) (ms : List MemberState) (can 
     claims : Some want.part ≡ None → ⊥
     claims e = cc
 
-    go : (k : Came)
+    go : (k : Response)
         → (EventError.FetcherIdle ≡ EventError.NoMemory)
         ⊎ (answered g logs (Some want.part) k ≡ Err EventError.FetcherIdle)
         → ⊥
@@ -144,8 +146,9 @@ module _ (g : GroupKeys) (logs : Logs) (f m : ℕ) (ms : List MemberState) (can 
 
   -- ---- octets from outside
 
-  pub came_for_it : (octets : List ℕ) → octets_as g logs want.part octets ≡ came_for g logs octets (claim_in ms m f)
-  came_for_it octets = ap (came_for g logs octets) (sym claim)
+  pub came_for_it : (octets : List ℕ)
+      → octets_response g logs want.part octets ≡ outside_response g logs octets (claim_in ms m f)
+  came_for_it octets = ap (outside_response g logs octets) (sym claim)
 
   pub reported_so : {E : Type 0} (octets : List ℕ) (r : Result Fed E)
       → IfOk r (λ fed. fed ≡ fed_as g logs octets want.part)
@@ -161,9 +164,10 @@ module _ (g : GroupKeys) (logs : Logs) (f m : ℕ) (ms : List MemberState) (can 
   -- They are foreign where they pass and aren't the publisher's.
   pub foreign_so : {T : Type 0} (octets : List ℕ) (r : Result T EventError)
       → IfErr r (λ fault.
-      (fault ≡ EventError.NoMemory) ⊎ ((fault ≡ EventError.Foreign) × (octets_as g logs want.part octets ≡ Another)))
+      (fault ≡ EventError.NoMemory)
+      ⊎ ((fault ≡ EventError.Foreign) × (octets_response g logs want.part octets ≡ Another)))
       → IfErr r (λ fault. (fault ≡ EventError.NoMemory)
-      ⊎ (answered g logs (Some want.part) (octets_as g logs want.part octets) ≡ Err fault))
+      ⊎ (answered g logs (Some want.part) (octets_response g logs want.part octets) ≡ Err fault))
   foreign_so octets r h = if_err r h (λ fault k. elim k [
     | inl memory ↦ inl memory
     | inr foreign ↦

@@ -52,10 +52,10 @@ at_number of packets k = go (k == 0) (nat_le k (length packets)) refl refl where
         (ap read p ∙ ap (option_map of)
         (slice_get-get_or packets (k - 1) no_packet (omega (arith, one, last))))
     inside false q one =
-        let out : length packets < k = leb-false k (length packets) q in
+        let env : length packets < k = leb-false k (length packets) q in
         Nowhere (ap (λ (b : Bool). nat_le 1 k && b) q ∙ and-false (nat_le 1 k))
         (ap read p
-        ∙ ap (option_map of) (slice_get_past packets (k - 1) (omega (arith, one, out))))
+        ∙ ap (option_map of) (slice_get_past packets (k - 1) (omega (arith, one, env))))
 
 pub record IsThere (of : SentPacket → List ℕ) (packets : List SentPacket) (k : ℕ) (x : List ℕ) : Type 0 where
   pub first : 1 ≤ k
@@ -109,8 +109,8 @@ module _ (s : GroupState) (is : IsConsistentState s) (k : ℕ) (one : 1 ≤ k) (
   octets_are = sync.octets ∙ ap (λ (p : SyncInterest). sync_of s.keys p.sender p.vector) (sym sent_is)
 
   -- It has a number for each member.
-  pub few_numbers : (reported : List ℕ) → reported ≡ (get_or s.sent (k - 1) no_packet).vector → length reported ≤ 16
-  few_numbers reported same =
+  pub few_numbers : (received : List ℕ) → received ≡ (get_or s.sent (k - 1) no_packet).vector → length received ≤ 16
+  few_numbers received same =
       let e = ap length same in let w = sync.vector.width in let n = many s is in let few = few_members s is in
       omega (arith, e, w, n, few)
 
@@ -119,17 +119,17 @@ module _ (s : GroupState) (is : IsConsistentState s) (k : ℕ) (one : 1 ≤ k) (
     fits = sync.vector.width ∙ sym (consistent s is m there old old_is).sound.width
 
     -- It reports no publication that there isn't.
-    pub no_more : (reported : List ℕ) → reported ≡ (get_or s.sent (k - 1) no_packet).vector
-        → slice_index reported old.number ≤ length old.log
-    no_more reported at =
+    pub no_more : (received : List ℕ) → received ≡ (get_or s.sent (k - 1) no_packet).vector
+        → slice_index received old.number ≤ length old.log
+    no_more received at =
         let here = ap (λ (v : List ℕ). slice_index v old.number) at in
         let most = sync.vector.no_more old.number in
         let own : last_of (logs_around s.members) old.number ≡ length old.log =
         ap length (consistent s is m there old old_is).log in
         omega (arith, here, most, own)
 
-    reported_is : (sent_at (world_of s) k).vector ≡ (get_or s.sent (k - 1) no_packet).vector
-    reported_is = ap (λ (p : SyncInterest). p.vector) sent_is
+    received_is : (sent_at (world_of s) k).vector ≡ (get_or s.sent (k - 1) no_packet).vector
+    received_is = ap (λ (p : SyncInterest). p.vector) sent_is
 
     module _ (draws : ℕ → ℕ → ℕ) (draw : ℕ)
         (e : b ≡ member_hears (get_or s.sent (k - 1) no_packet).vector s.time draw old)
@@ -152,7 +152,7 @@ module _ (s : GroupState) (is : IsConsistentState s) (k : ℕ) (one : 1 ≤ k) (
           (λ (x : Member). group.learns (draws m x.machine.draws) s.time (get_or s.sent (k - 1) no_packet).vector x)
           (sym (member_is s is m there old old_is))
           ∙ ap (λ (v : List ℕ). group.learns (drawn (drawing draws) (world_of s) m) s.time v (member (world_of s) m))
-          (sym reported_is)) in
+          (sym received_is)) in
           ap (λ (ms : List Member).
           let w : World = record {
             members = ms;

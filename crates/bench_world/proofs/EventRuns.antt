@@ -8,7 +8,7 @@ use Rattle.group_model.specs.World.{Environment, World}
 use Rattle.group_model.specs.Steps.{after_event, after_events}
 use Rattle.group_model.specs.Refusals.{Refusal, refusal, NamesThose, EventIsTaken, EventsAreTaken}
 use Rattle.group_model.specs.Sound.{IsSoundGroup}
-use Rattle.group_model.specs.Laws.{NothingHidden, NothingWanted, AllJoined}
+use Rattle.group_model.specs.Laws.{NothingDeleted, NothingWanted, AllJoined}
 use Rattle.group_model.proofs.PublicLaws.{informed_of_all}
 use Rattle.group_model.proofs.Worlds.{sound_after_all}
 use Rattle.group_model.proofs.Lasting.{lasts}
@@ -22,20 +22,20 @@ use Rattle.bench_world.specs.Worlds.{GroupState, world_of}
 
 -- ---- lists
 
-after_append : (out : Environment) (w : World) (xs ys : List group.Event)
-    → after_events out w (xs ++ ys) ≡ after_events out (after_events out w xs) ys
-after_append out w [] ys = refl
-after_append out w (x ∷ xs) ys = after_append out (after_event out w x) xs ys
+after_append : (env : Environment) (w : World) (xs ys : List group.Event)
+    → after_events env w (xs ++ ys) ≡ after_events env (after_events env w xs) ys
+after_append env w [] ys = refl
+after_append env w (x ∷ xs) ys = after_append env (after_event env w x) xs ys
 
-taken_append : (out : Environment) (w : World) (xs ys : List group.Event) → EventsAreTaken out w xs
-    → EventsAreTaken out (after_events out w xs) ys → EventsAreTaken out w (xs ++ ys)
-taken_append out w [] ys a b = b
-taken_append out w (x ∷ xs) ys a b = (a.0, taken_append out (after_event out w x) xs ys a.1 b)
+taken_append : (env : Environment) (w : World) (xs ys : List group.Event) → EventsAreTaken env w xs
+    → EventsAreTaken env (after_events env w xs) ys → EventsAreTaken env w (xs ++ ys)
+taken_append env w [] ys a b = b
+taken_append env w (x ∷ xs) ys a b = (a.0, taken_append env (after_event env w x) xs ys a.1 b)
 
-taken_split : (out : Environment) (w : World) (xs ys : List group.Event) → EventsAreTaken out w (xs ++ ys)
-    → EventsAreTaken out w xs × EventsAreTaken out (after_events out w xs) ys
-taken_split out w [] ys a = (tt, a)
-taken_split out w (x ∷ xs) ys a = let r = taken_split out (after_event out w x) xs ys a.1 in ((a.0, r.0), r.1)
+taken_split : (env : Environment) (w : World) (xs ys : List group.Event) → EventsAreTaken env w (xs ++ ys)
+    → EventsAreTaken env w xs × EventsAreTaken env (after_events env w xs) ys
+taken_split env w [] ys a = (tt, a)
+taken_split env w (x ∷ xs) ys a = let r = taken_split env (after_event env w x) xs ys a.1 in ((a.0, r.0), r.1)
 
 -- ---- one event
 
@@ -68,11 +68,11 @@ named_ready n w g (EventValue.Delete m client name) many r = omega (arith, many,
 named_ready n w g EventValue.Summary many r = tt
 named_ready n w g EventValue.Traffic many r = tt
 
-module _ (out : Environment) (g : GroupKeys) (begun : World) (events : List Event) where
+module _ (env : Environment) (g : GroupKeys) (begun : World) (events : List Event) where
   module _ (i : ℕ) (inside : i < length events) (item : Event) (item_is : item ≡ get_or events i item) (mid new : World)
       (n : ℕ) (many : length mid.members ≡ n) (ready : IsReady n (event_value item))
-      (taken : EventsAreTaken out begun (group_events g (event_values (take i events))))
-      (world : mid ≡ after_events out begun (group_events g (event_values (take i events)))) where
+      (taken : EventsAreTaken env begun (group_events g (event_values (take i events))))
+      (world : mid ≡ after_events env begun (group_events g (event_values (take i events)))) where
     one_more : group_events g (event_values (take (i + 1) events))
         ≡ group_events g (event_values (take i events)) ++ group_event g (event_value item) ∷ []
     one_more =
@@ -89,10 +89,10 @@ module _ (out : Environment) (g : GroupKeys) (begun : World) (events : List Even
     take_values = ap (group_events g) (take-map event_value i events)
 
     -- The fault of this event is that of the list.
-    pub stopped_here : (out_ : Environment) (begun_ mid_ new_ : GroupState) (fault : StepFault) → out ≡ out_
+    pub stopped_here : (out_ : Environment) (begun_ mid_ new_ : GroupState) (fault : StepFault) → env ≡ out_
         → world_of begun_ ≡ begun → begun_.keys ≡ g → world_of mid_ ≡ mid
         → mid_.steps ≡ begun_.steps + i → mid_.keys ≡ begun_.keys
-        → IsStepFaultOf (refusal out mid (group_event g (event_value item))) fault
+        → IsStepFaultOf (refusal env mid (group_event g (event_value item))) fault
         → StandsAsBefore (event_value item) mid_ new_
         → IsStopped out_ begun_ (event_values events) i fault new_
     stopped_here out_ begun_ mid_ new_ fault out_is begun_is keys_are mid_is steps_are keys_stay cause stands = record {
@@ -103,8 +103,8 @@ module _ (out : Environment) (g : GroupKeys) (begun : World) (events : List Even
           ap (λ (h : GroupKeys). group_events h (take i (event_values events))) keys_are ∙ take_values in
           subst (λ (o : Environment).
           EventsAreTaken o (world_of begun_) (group_events begun_.keys (take i (event_values events)))) out_is
-          (subst (λ (w : World). EventsAreTaken out w (group_events begun_.keys (take i (event_values events))))
-          (sym begun_is) (subst (EventsAreTaken out begun) (sym e) taken));
+          (subst (λ (w : World). EventsAreTaken env w (group_events begun_.keys (take i (event_values events))))
+          (sym begun_is) (subst (EventsAreTaken env begun) (sym e) taken));
       before = mid_;
       steps = steps_are;
       keys = keys_stay;
@@ -112,7 +112,7 @@ module _ (out : Environment) (g : GroupKeys) (begun : World) (events : List Even
           let e : group_events begun_.keys (take i (event_values events))
           ≡ group_events g (event_values (take i events)) =
           ap (λ (h : GroupKeys). group_events h (take i (event_values events))) keys_are ∙ take_values in
-          mid_is ∙ world ∙ ap (after_events out begun) (sym e)
+          mid_is ∙ world ∙ ap (after_events env begun) (sym e)
           ∙ (λ j. after_events (out_is j) (sym begun_is j) (group_events begun_.keys (take i (event_values events))));
       stands = subst (λ (v : EventValue). StandsAsBefore v mid_ new_) (sym (at_place EventValue.Traffic)) stands;
       because = subst (λ (r : Option Refusal). IsStepFaultOf r fault)
@@ -120,54 +120,54 @@ module _ (out : Environment) (g : GroupKeys) (begun : World) (events : List Even
           cause;
     }
 
-    module _ (not_refused : refusal out mid (group_event g (event_value item)) ≡ None)
-        (step_world : new ≡ after_event out mid (group_event g (event_value item))) where
-      is_taken : EventIsTaken out mid (group_event g (event_value item))
+    module _ (not_refused : refusal env mid (group_event g (event_value item)) ≡ None)
+        (step_world : new ≡ after_event env mid (group_event g (event_value item))) where
+      is_taken : EventIsTaken env mid (group_event g (event_value item))
       is_taken = record { named = named_ready n mid g (event_value item) many ready; taken = not_refused }
 
-      pub taken_more : EventsAreTaken out begun (group_events g (event_values (take (i + 1) events)))
+      pub taken_more : EventsAreTaken env begun (group_events g (event_values (take (i + 1) events)))
       taken_more =
-          subst (EventsAreTaken out begun) (sym one_more)
-          (taken_append out begun (group_events g (event_values (take i events)))
+          subst (EventsAreTaken env begun) (sym one_more)
+          (taken_append env begun (group_events g (event_values (take i events)))
           (group_event g (event_value item) ∷ []) taken
-          (subst (λ (w : World). EventIsTaken out w (group_event g (event_value item))) world is_taken, tt))
+          (subst (λ (w : World). EventIsTaken env w (group_event g (event_value item))) world is_taken, tt))
 
       pub many_more : IsSoundGroup begun → length new.members ≡ n
       many_more sound =
           ap (λ (w : World). length w.members) step_world
-          ∙ (lasts out mid (group_event g (event_value item)) is_taken
+          ∙ (lasts env mid (group_event g (event_value item)) is_taken
           (subst IsSoundGroup (sym world)
-          (sound_after_all out (group_events g (event_values (take i events))) begun taken sound))).width
+          (sound_after_all env (group_events g (event_values (take i events))) begun taken sound))).width
           ∙ many
 
-      pub world_more : new ≡ after_events out begun (group_events g (event_values (take (i + 1) events)))
+      pub world_more : new ≡ after_events env begun (group_events g (event_values (take (i + 1) events)))
       world_more =
-          step_world ∙ ap (λ (w : World). after_event out w (group_event g (event_value item))) world
-          ∙ sym (after_append out begun (group_events g (event_values (take i events)))
+          step_world ∙ ap (λ (w : World). after_event env w (group_event g (event_value item))) world
+          ∙ sym (after_append env begun (group_events g (event_values (take i events)))
           (group_event g (event_value item) ∷ []))
-          ∙ ap (after_events out begun) (sym one_more)
+          ∙ ap (after_events env begun) (sym one_more)
 
   -- ---- all of them
 
   module _ (sound : IsSoundGroup begun) (n : ℕ) (all : n ≡ length events) (last : World)
-      (taken : EventsAreTaken out begun (group_events g (event_values (take n events))))
-      (world : last ≡ after_events out begun (group_events g (event_values (take n events)))) where
+      (taken : EventsAreTaken env begun (group_events g (event_values (take n events))))
+      (world : last ≡ after_events env begun (group_events g (event_values (take n events)))) where
     whole : group_events g (event_values (take n events)) ≡ group_events g (event_values events)
     whole = ap (λ (es : List Event). group_events g (event_values es)) (take_all n events (omega (arith, all)))
 
-    pub all_taken : EventsAreTaken out begun (group_events g (event_values events))
-    all_taken = subst (EventsAreTaken out begun) whole taken
+    pub all_taken : EventsAreTaken env begun (group_events g (event_values events))
+    all_taken = subst (EventsAreTaken env begun) whole taken
 
-    pub all_world : last ≡ after_events out begun (group_events g (event_values events))
-    all_world = world ∙ ap (after_events out begun) whole
+    pub all_world : last ≡ after_events env begun (group_events g (event_values events))
+    all_world = world ∙ ap (after_events env begun) whole
 
-    pub all_joined : ListLawFrom out begun (group_events g (event_values events)) last
+    pub all_joined : ListLawFrom env begun (group_events g (event_values events)) last
     all_joined first later e tells hidden wanted =
-        let split = taken_split out begun first later (subst (EventsAreTaken out begun) e all_taken) in
-        let last_is : last ≡ after_events out (after_events out begun first) later =
-        all_world ∙ ap (after_events out begun) e ∙ after_append out begun first later in
+        let split = taken_split env begun first later (subst (EventsAreTaken env begun) e all_taken) in
+        let last_is : last ≡ after_events env (after_events env begun first) later =
+        all_world ∙ ap (after_events env begun) e ∙ after_append env begun first later in
         subst AllJoined (sym last_is)
-        (informed_of_all out (after_events out begun first) (sound_after_all out first begun split.0 sound) later
+        (informed_of_all env (after_events env begun first) (sound_after_all env first begun split.0 sound) later
         split.1
         tells
-        (subst NothingHidden last_is hidden) (subst NothingWanted last_is wanted))
+        (subst NothingDeleted last_is hidden) (subst NothingWanted last_is wanted))

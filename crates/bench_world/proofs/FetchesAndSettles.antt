@@ -10,26 +10,26 @@ use Rattle.sorted_lists.specs.SortedList.{value_of}
 use Rattle.group_model.specs.Processes.{Process, indexes}
 use Rattle.std.proofs.lemmas.List.Elements.{All-append}
 use Rattle.bench_net.specs.SentList.{SentPacket}
-use Rattle.svs_sync.specs.KeptVector.{Keeper}
+use Rattle.svs_sync.specs.SyncStates.{SyncState}
 use Rattle.repo_plan.specs.declared.part.Part.{Part}
 use Rattle.repo_object.specs.Objects.{contents_of}
 use Rattle.group_model.specs.Publications.{Logs, no_post, published}
 use Rattle.group_model.specs.Member.{Member, tries_of}
 use Rattle.group_model.specs.Events.{SyncInterest, Event}
 use Rattle.group_model.specs.World.{Tally, World, Environment, no_member, member}
-use Rattle.group_model.specs.Laws.{NothingHidden, AllJoined}
+use Rattle.group_model.specs.Laws.{NothingDeleted, AllJoined}
 use Rattle.group_model.specs.Limits.{IsWithinSteps, IsMemberWithin, FitsIn64Bits}
 use Rattle.group_model.specs.Sound.{IsSoundGroup}
-use Rattle.group_model.specs.Steps.{settle_gains, settled_member, syncs_of, after_gathering, fetched_parts}
+use Rattle.group_model.specs.Steps.{settle_new_parts, settled_member, syncs_of, after_gathering, fetched_parts}
 use Rattle.group_model.specs.Steps.{attempts_made, after_fetch}
 use Rattle.group_model.proofs.PublicLaws.{gathering_joins, gathering_within, more_within, tallies_fit}
 use Rattle.repo_member.specs.MemberState.{MemberState}
 use Rattle.repo_member.specs.InGroup.{in_group}
 use Rattle.bench_world.specs.declared.sync_exchange.MemberSync.{MemberSync}
-use Rattle.bench_world.specs.Serving.{environment, keyed}
-use Rattle.bench_world.specs.Settling.{reported_of, gain_sum, ArePartlySettled, IsPartlySettled}
+use Rattle.bench_world.specs.Serving.{environment, lossless}
+use Rattle.bench_world.specs.Settling.{sent_sync, new_parts_sum, ArePartlySettled, IsPartlySettled}
 use Rattle.bench_world.specs.Sizes.{size_of}
-use Rattle.bench_world.specs.Runs.{HaveSettledPart}
+use Rattle.bench_world.specs.Runs.{HaveSettledPartly}
 use Rattle.bench_world.specs.Worlds.{GroupState, IsConsistentState, IsConsistentSync, state_at, in_groups, logs_around}
 use Rattle.bench_world.specs.Worlds.{AllCountsStay, MembersAreNumbered, AreConsistentMembers, sync_in, tells, world_of}
 use Rattle.bench_world.specs.Worlds.{only_members}
@@ -43,37 +43,37 @@ use Rattle.bench_world.proofs.Readers.{counted_state}
 
 module _ (s : GroupState) (is : IsConsistentState s) (few : s.steps < 100000) (passes : ℕ → ℕ → ℕ → ℕ → ℕ → ℕ → Bool)
     (m tries loss : ℕ) (most : tries ≤ 16) where
-  abbrev out : Environment
-  out = environment s.keys (λ _ _. 0) passes
+  abbrev env : Environment
+  env = environment s.keys (λ _ _. 0) passes
 
-  fetch_within : IsWithinSteps (s.steps + 1) (after_fetch out (world_of s) m tries loss)
+  fetch_within : IsWithinSteps (s.steps + 1) (after_fetch env (world_of s) m tries loss)
   fetch_within =
-      within_more s is few out (λ t. size_short s.keys (logs_around s.members) is.are t) (Event.Fetch m tries loss)
+      within_more s is few env (λ t. size_short s.keys (logs_around s.members) is.are t) (Event.Fetch m tries loss)
       most
 
   module _ (attempts parts octets : ℕ)
-      (attempts_is : attempts ≡ attempts_made out (only_members s.members) m tries loss)
-      (parts_is : parts ≡ length (fetched_parts out (only_members s.members) m tries loss))
+      (attempts_is : attempts ≡ attempts_made env (only_members s.members) m tries loss)
+      (parts_is : parts ≡ length (fetched_parts env (only_members s.members) m tries loss))
       (octets_is : octets
-      ≡ sum_by (size_of s.keys (logs_around s.members)) (fetched_parts out (only_members s.members) m tries loss)) where
+      ≡ sum_by (size_of s.keys (logs_around s.members)) (fetched_parts env (only_members s.members) m tries loss)) where
     pub fetch_fits : (s.tally.attempts + attempts < 2 ^ 64)
         × (s.tally.parts + parts < 2 ^ 64)
         × (s.tally.octets + octets < 2 ^ 64)
     fetch_fits =
-        let fits : FitsIn64Bits (after_fetch out (world_of s) m tries loss).tally =
-        tallies_fit (s.steps + 1) (after_fetch out (world_of s) m tries loss).tally (omega (arith, few))
+        let fits : FitsIn64Bits (after_fetch env (world_of s) m tries loss).tally =
+        tallies_fit (s.steps + 1) (after_fetch env (world_of s) m tries loss).tally (omega (arith, few))
         fetch_within.tally in
-        let a : s.tally.attempts + attempts_made out (only_members s.members) m tries loss < 2 ^ 64 = fits.attempts in
-        let p : s.tally.parts + length (fetched_parts out (only_members s.members) m tries loss) < 2 ^ 64 =
+        let a : s.tally.attempts + attempts_made env (only_members s.members) m tries loss < 2 ^ 64 = fits.attempts in
+        let p : s.tally.parts + length (fetched_parts env (only_members s.members) m tries loss) < 2 ^ 64 =
         fits.parts in
         let o : s.tally.octets
-        + sum_by (size_of s.keys (logs_around s.members)) (fetched_parts out (only_members s.members) m tries loss)
+        + sum_by (size_of s.keys (logs_around s.members)) (fetched_parts env (only_members s.members) m tries loss)
         < 2 ^ 64 =
         fits.octets in
         (omega (arith, a, attempts_is), omega (arith, p, parts_is), omega (arith, o, octets_is))
 
     module _ (new : List MemberState)
-        (new_is : in_groups new ≡ (after_fetch out (only_members s.members) m tries loss).members) where
+        (new_is : in_groups new ≡ (after_fetch env (only_members s.members) m tries loss).members) where
       abbrev fetched : Tally
       fetched = record s.tally {
         attempts = s.tally.attempts + attempts;
@@ -82,7 +82,7 @@ module _ (s : GroupState) (is : IsConsistentState s) (few : s.steps < 100000) (p
       }
 
       pub fetch_world : world_of (record s { members = new; tally = fetched; steps = s.steps + 1 })
-          ≡ after_fetch out (world_of s) m tries loss
+          ≡ after_fetch env (world_of s) m tries loss
       fetch_world = λ i. record (world_of s) {
         members = new_is i;
         tally = record s.tally {
@@ -96,20 +96,20 @@ module _ (s : GroupState) (is : IsConsistentState s) (few : s.steps < 100000) (p
           → AreConsistentMembers s.keys (logs_around s.members) new
           → IsConsistentState (record s { members = new; tally = fetched; steps = s.steps + 1 })
       fetch_state len numbers consistent =
-          stepped s is few out (λ t. size_short s.keys (logs_around s.members) is.are t) (Event.Fetch m tries loss)
+          stepped s is few env (λ t. size_short s.keys (logs_around s.members) is.are t) (Event.Fetch m tries loss)
           most new s.sent s.time fetched len numbers consistent is.sent fetch_world
 
 -- ---- a settle
 
 module _ (s : GroupState) (is : IsConsistentState s) where
-  reported_syncs : (j : ℕ) (members : List MemberState)
+  received_syncs : (j : ℕ) (members : List MemberState)
       → ((i : ℕ) → i < length members → (state_at members i).number ≡ j + i)
       → map sync_in (map (tells s.keys) members) ≡ syncs_of j (in_groups members)
-  reported_syncs j [] numbers = refl
-  reported_syncs j (a ∷ members) numbers =
+  received_syncs j [] numbers = refl
+  received_syncs j (a ∷ members) numbers =
       let first : a.number ≡ j = numbers 0 (omega arith) ∙ none j in
       let rest : map sync_in (map (tells s.keys) members) ≡ syncs_of (j + 1) (in_groups members) =
-      reported_syncs (j + 1) members (λ i l.
+      received_syncs (j + 1) members (λ i l.
       let e : (state_at members i).number ≡ j + suc i = numbers (suc i) (omega (arith, l)) in omega (arith, e)) in
       λ k. record { sender = first k; vector = a.known } ∷ rest k where
         none : (n : ℕ) → n + 0 ≡ n
@@ -171,7 +171,7 @@ module _ (s : GroupState) (is : IsConsistentState s) where
           draws =
               let a : (state_at s.members j).machine.draws ≤ s.steps + 1 = (member_within s is j).draws in
               let e : (state_at mid j).machine.draws ≡ (state_at s.members j).machine.draws =
-              ap (λ (k : Keeper). k.draws) (counts j).machine in
+              ap (λ (k : SyncState). k.draws) (counts j).machine in
               omega (arith, a, e);
           tried = λ t.
               let a : tries_of (state_at s.members j).attempts t ≤ s.steps * 16 = (member_within s is j).tried t in
@@ -201,7 +201,7 @@ module _ (s : GroupState) (is : IsConsistentState s) where
     pub partly : (mid : List MemberState) → length mid ≡ length s.members → MembersAreNumbered mid
         → AreConsistentMembers s.keys (logs_around s.members) mid → AllCountsStay s.members mid
         → ArePartlySettled (only_members s.members) (in_groups mid)
-        → HaveSettledPart s (record s { members = mid; steps = s.steps + 1 })
+        → HaveSettledPartly s (record s { members = mid; steps = s.steps + 1 })
     partly mid len numbers consistent counts p = record {
       same = refl;
       members = record {
@@ -230,7 +230,7 @@ module _ (s : GroupState) (is : IsConsistentState s) where
     }
 
     -- Nothing has been settled yet.
-    pub partly_before : HaveSettledPart s (record s { steps = s.steps + 1 })
+    pub partly_before : HaveSettledPartly s (record s { steps = s.steps + 1 })
     partly_before = record {
       same = refl;
       members = partly_none s.keys (world_of s) is.are (sound_state s is) s.members refl is.members;
@@ -242,13 +242,13 @@ module _ (s : GroupState) (is : IsConsistentState s) where
 
     module _ (mid : List MemberState)
         (mid_is : in_groups mid ≡ map (settled_member (only_members s.members)) (in_groups s.members))
-        (sent : List SentPacket) (reported : List MemberSync)
-        (sent_is : sent ≡ s.sent ++ map reported_of reported)
-        (reported_is : map reported_of reported ≡ map (tells s.keys) s.members)
+        (sent : List SentPacket) (received : List MemberSync)
+        (sent_is : sent ≡ s.sent ++ map sent_sync received)
+        (received_is : map sent_sync received ≡ map (tells s.keys) s.members)
         (count less parts octets : ℕ) (count_is : count ≡ length mid) (less_is : less ≡ count - 1)
-        (parts_is : parts ≡ settle_gains (only_members s.members))
+        (parts_is : parts ≡ settle_new_parts (only_members s.members))
         (octets_is : octets
-        ≡ gain_sum (size_of s.keys (logs_around s.members)) (only_members s.members) (in_groups s.members)) where
+        ≡ new_parts_sum (size_of s.keys (logs_around s.members)) (only_members s.members) (in_groups s.members)) where
       abbrev settled : Tally
       settled = record s.tally {
         delivered = s.tally.delivered + count * less;
@@ -258,24 +258,24 @@ module _ (s : GroupState) (is : IsConsistentState s) where
 
       syncs : map sync_in sent ≡ map sync_in s.sent ++ syncs_of 0 (in_groups s.members)
       syncs =
-          ap (map sync_in) sent_is ∙ map-append sync_in s.sent (map reported_of reported)
-          ∙ ap (λ (ps : List SentPacket). map sync_in s.sent ++ map sync_in ps) reported_is
+          ap (map sync_in) sent_is ∙ map-append sync_in s.sent (map sent_sync received)
+          ∙ ap (λ (ps : List SentPacket). map sync_in s.sent ++ map sync_in ps) received_is
           ∙ ap (λ (ss : List SyncInterest). map sync_in s.sent ++ ss)
-          (reported_syncs 0 s.members (λ i l. is.numbers i l ∙ first i)) where
+          (received_syncs 0 s.members (λ i l. is.numbers i l ∙ first i)) where
             first : (n : ℕ) → n ≡ 0 + n
             first n = omega arith
 
       all_consistent : All (IsConsistentSync s.keys (logs_around s.members)) sent
       all_consistent =
           subst (All (IsConsistentSync s.keys (logs_around s.members)))
-          (sym (sent_is ∙ ap (λ (ps : List SentPacket). s.sent ++ ps) reported_is))
+          (sym (sent_is ∙ ap (λ (ps : List SentPacket). s.sent ++ ps) received_is))
           (All-append (IsConsistentSync s.keys (logs_around s.members)) s.sent (map (tells s.keys) s.members) is.sent
           (reported_consistently s.members (λ i l.
           let n : (state_at s.members i).number ≡ i = is.numbers i l in
           let w = is.are.width in let k = many s is in omega (arith, n, l, w, k)) is.members))
 
       pub settle_world : world_of (record s { members = mid; sent = sent; tally = settled; steps = s.steps + 1 })
-          ≡ after_gathering (keyed s.keys) (world_of s)
+          ≡ after_gathering (lossless s.keys) (world_of s)
       settle_world =
           let n : count ≡ length (in_groups s.members) =
           count_is
@@ -298,15 +298,15 @@ module _ (s : GroupState) (is : IsConsistentState s) where
           (world_of (record s { members = mid; sent = sent; tally = settled; steps = s.steps + 1 }))
       settle_within =
           subst (IsWithinSteps (s.steps + 1)) (sym settle_world)
-          (gathering_within (keyed s.keys) s.steps (world_of s) is.steps (few_here s is)
+          (gathering_within (lossless s.keys) s.steps (world_of s) is.steps (few_here s is)
           (λ t. size_short s.keys (logs_around s.members) is.are t) is.within)
 
-      pub settle_joined : NothingHidden
+      pub settle_joined : NothingDeleted
           (world_of (record s { members = mid; sent = sent; tally = settled; steps = s.steps + 1 }))
           → AllJoined (world_of (record s { members = mid; sent = sent; tally = settled; steps = s.steps + 1 }))
       settle_joined =
-          subst (λ (w : World). NothingHidden w → AllJoined w) (sym settle_world)
-          (gathering_joins (keyed s.keys) (world_of s) (sound_state s is))
+          subst (λ (w : World). NothingDeleted w → AllJoined w) (sym settle_world)
+          (gathering_joins (lossless s.keys) (world_of s) (sound_state s is))
 
       pub settle_state : length mid ≡ length s.members → MembersAreNumbered mid
           → AreConsistentMembers s.keys (logs_around s.members) mid

@@ -23,13 +23,13 @@ use Rattle.repo_member.specs.Groups.{GroupKeys}
 use Rattle.repo_holdings.specs.HoldingsState.{HoldingsState, held_plan}
 use Rattle.repo_holdings.specs.Taking.{Fetched}
 use Rattle.repo_member.specs.MemberState.{MemberState, member_holdings, member_plan, member_takes}
-use Rattle.repo_member.specs.InGroup.{in_group, AreLogs, asked_for, that_came, AreTries}
+use Rattle.repo_member.specs.InGroup.{in_group, AreLogs, asked_for, parts_fetched, AreTries}
 use Rattle.repo_member.specs.InEvents.{IsMemberOf, IsConsistentIn, IsOutcomeIn}
 use Rattle.repo_member.specs.ConsistentMembers.{IsConsistentMember}
 use Rattle.repo_member.specs.ConsistentChanges.{IsConsistentArrival}
 use Rattle.repo_member.proofs.PublicLaws.{open_parts_alike, fetch_is_event, consistent_stores}
 use Rattle.repo_member.proofs.PublicLaws.{consistent_is_member_state, takes_consistent}
-use Rattle.bench_world.specs.Lending.{lent, lends, attempt_comes}
+use Rattle.bench_world.specs.Lending.{lent, lends, attempt_passes}
 use Rattle.bench_world.specs.Gathering.{next_parts}
 use Rattle.bench_world.specs.Fetching.{attempt_at, fetched_one, fetched_all}
 use Rattle.bench_world.specs.Serving.{environment}
@@ -59,14 +59,14 @@ module _ (passes : Part → ℕ → Bool) (others : List MemberState) (tries : �
         go (Some o) (Some n) = refl
 
   pub came_same : (ts : List Part)
-      → that_came (fetched_all passes others tries held ts)
+      → parts_fetched (fetched_all passes others tries held ts)
       ≡ filter (λ t. is_some (attempt_at passes others tries held t)) ts
   came_same [] = refl
   came_same (t ∷ ts) =
       go (is_some (fetched_one passes others tries held t).packet) (is_some (attempt_at passes others tries held t))
       (came_some t) (came_same ts) where
         go : (b c : Bool) → b ≡ c
-            → that_came (fetched_all passes others tries held ts)
+            → parts_fetched (fetched_all passes others tries held ts)
             ≡ filter (λ u. is_some (attempt_at passes others tries held u)) ts
             → asked_for
             (cond b (fetched_one passes others tries held t
@@ -83,7 +83,7 @@ module _ (passes : Part → ℕ → Bool) (others : List MemberState) (tries : �
             (filter (λ u. is_some (attempt_at passes others tries held u)) ts)) e (same b h)
           where
             same : (b : Bool)
-                → that_came (fetched_all passes others tries held ts)
+                → parts_fetched (fetched_all passes others tries held ts)
                 ≡ filter (λ u. is_some (attempt_at passes others tries held u)) ts
                 → asked_for
                 (cond b (fetched_one passes others tries held t
@@ -127,7 +127,7 @@ tried_sum f (x ∷ xs) all =
 abbrev pub fetched_of : (ℕ → ℕ → ℕ → ℕ → ℕ → ℕ → Bool) → (j tries loss : ℕ) → List MemberState → MemberState
     → List Fetched
 fetched_of passes j tries loss lent a =
-    fetched_all (attempt_comes passes j (Some loss)) lent tries (member_holdings a)
+    fetched_all (attempt_passes passes j (Some loss)) lent tries (member_holdings a)
     (next_parts None (member_holdings a))
 
 -- Where the member of a number takes what came of the others, all are as after the event; else they are as before.
@@ -140,7 +140,7 @@ pub record HasFetchedAt (passes : ℕ → ℕ → ℕ → ℕ → ℕ → ℕ �
       → AreConsistentMembers g (logs w) new
   pub numbers : left ≡ member_takes (fetched_of passes j tries loss lent old) old → MembersAreNumbered new
   pub planned : length (next_parts None (member_holdings old)) ≡ length (planned_parts w j)
-  pub came : that_came (fetched_of passes j tries loss lent old)
+  pub came : parts_fetched (fetched_of passes j tries loss lent old)
       ≡ fetched_parts (environment g draw passes) w j tries loss
   pub attempts : sum (map (λ (x : Fetched). x.attempts) (fetched_of passes j tries loss lent old))
       ≡ attempts_made (environment g draw passes) w j tries loss
@@ -151,11 +151,11 @@ module _ (passes : ℕ → ℕ → ℕ → ℕ → ℕ → ℕ → Bool) (draw :
     (are : AreLogs g (logs w)) (members : List MemberState) (begun : in_groups members ≡ w.members)
     (numbers : MembersAreNumbered members) (consistent : AreConsistentMembers g (logs w) members)
     (j : ℕ) (there : j < length members) (tries loss : ℕ) where
-  abbrev pub out : Environment
-  out = environment g draw passes
+  abbrev pub env : Environment
+  env = environment g draw passes
 
   abbrev pub way : Part → ℕ → Bool
-  way = attempt_comes passes j (Some loss)
+  way = attempt_passes passes j (Some loss)
 
   abbrev pub others : List MemberState
   others = others_than j members
@@ -168,7 +168,7 @@ module _ (passes : ℕ → ℕ → ℕ → ℕ → ℕ → ℕ → Bool) (draw :
 
   abbrev pub fetched : List Fetched
   fetched =
-      fetched_all (attempt_comes passes j (Some loss)) (others_than j members) tries
+      fetched_all (attempt_passes passes j (Some loss)) (others_than j members) tries
       (member_holdings (state_at members j)) (next_parts None (member_holdings (state_at members j)))
 
   member_is : member w j ≡ in_group here
@@ -183,14 +183,14 @@ module _ (passes : ℕ → ℕ → ℕ → ℕ → ℕ → ℕ → Bool) (draw :
     same = member_is;
   }
 
-  is_true : IsConsistentIn g w here
-  is_true = record { published = are; stores = consistent_stores g (logs w) here (consistent j there) }
+  is_consistent : IsConsistentIn g w here
+  is_consistent = record { published = are; stores = consistent_stores g (logs w) here (consistent j there) }
 
   lends_same : (t : Part) → lends others t ≡ someone_holds (others_of w j) t
   lends_same t =
       lends_held others t ∙ removed members j t ∙ ap (λ (ms : List Member). someone_holds (set ms j no_member) t) begun
 
-  attempt_same : (t : Part) → attempt_at way others tries holdings t ≡ attempt out w j tries loss t
+  attempt_same : (t : Part) → attempt_at way others tries holdings t ≡ attempt env w j tries loss t
   attempt_same t =
       let tried : here.attempts ≡ (member w j).attempts = ap (λ (m : Member). m.attempts) (sym member_is) in
       ap (λ (b : Bool). cond b
@@ -202,45 +202,46 @@ module _ (passes : ℕ → ℕ → ℕ → ℕ → ℕ → ℕ → Bool) (draw :
 
   planned_same : next_parts None holdings ≡ planned_parts w j
   planned_same =
-      ap (take 4096) (after_none (unclaimed (member_plan here)) ∙ sym (open_parts_alike w j g here is_member is_true))
+      ap (take 4096) (after_none (unclaimed (member_plan here))
+      ∙ sym (open_parts_alike w j g here is_member is_consistent))
 
   planned_are : length (next_parts None holdings) ≡ length (planned_parts w j)
   planned_are = ap length planned_same
 
-  came_are : that_came fetched ≡ fetched_parts out w j tries loss
+  came_are : parts_fetched fetched ≡ fetched_parts env w j tries loss
   came_are =
       came_same way others tries holdings (next_parts None holdings)
       ∙ filter_agree (λ t. is_some (attempt_at way others tries holdings t))
-      (λ t. is_some (attempt out w j tries loss t)) (λ t. ap is_some (attempt_same t)) (next_parts None holdings)
-      ∙ ap (filter (λ t. is_some (attempt out w j tries loss t))) planned_same
+      (λ t. is_some (attempt env w j tries loss t)) (λ t. ap is_some (attempt_same t)) (next_parts None holdings)
+      ∙ ap (filter (λ t. is_some (attempt env w j tries loss t))) planned_same
 
-  tried_are : AreTries (attempts_for out w j tries loss) fetched
+  tried_are : AreTries (attempts_for env w j tries loss) fetched
   tried_are =
-      tried_same way others tries holdings (attempts_for out w j tries loss)
+      tried_same way others tries holdings (attempts_for env w j tries loss)
       (λ t. ap (λ (o : Option ℕ). unwrap_or o tries) (attempt_same t)) (next_parts None holdings)
 
-  outcome : IsOutcomeIn out w j tries loss fetched
+  outcome : IsOutcomeIn env w j tries loss fetched
   outcome = record {
     asked = asked_same way others tries holdings (next_parts None holdings) ∙ planned_same;
     came = came_are;
     tried = tried_are;
   }
 
-  attempts_are : sum (map (λ (x : Fetched). x.attempts) fetched) ≡ attempts_made out w j tries loss
+  attempts_are : sum (map (λ (x : Fetched). x.attempts) fetched) ≡ attempts_made env w j tries loss
   attempts_are =
-      tried_sum (attempts_for out w j tries loss) fetched tried_are
-      ∙ ap (sum_by (attempts_for out w j tries loss)) outcome.asked
+      tried_sum (attempts_for env w j tries loss) fetched tried_are
+      ∙ ap (sum_by (attempts_for env w j tries loss)) outcome.asked
 
   -- The member afterwards is what the event makes of it.
-  fetched_in : member (after_event out w (Event.Fetch j tries loss)) j ≡ in_group (member_takes fetched here)
+  fetched_in : member (after_event env w (Event.Fetch j tries loss)) j ≡ in_group (member_takes fetched here)
   fetched_in =
-      fetch_is_event out w j tries loss fetched here is_member
+      fetch_is_event env w j tries loss fetched here is_member
       (consistent_is_member_state g (logs w) here (consistent j there)).in_order
       outcome
 
-  fetched_member : in_group (member_takes fetched here) ≡ fetches out w j tries loss (member w j)
+  fetched_member : in_group (member_takes fetched here) ≡ fetches env w j tries loss (member w j)
   fetched_member =
-      sym fetched_in ∙ get_or-set_same w.members j (fetches out w j tries loss (member w j)) no_member is_member.there
+      sym fetched_in ∙ get_or-set_same w.members j (fetches env w j tries loss (member w j)) no_member is_member.there
 
   fetched_consistently : IsConsistentMember g (logs w) (member_takes fetched here)
   fetched_consistently =
@@ -262,7 +263,7 @@ module _ (passes : ℕ → ℕ → ℕ → ℕ → ℕ → ℕ → Bool) (draw :
             })
 
   module _ (new : List MemberState) (new_is : new ≡ set members j (member_takes fetched here)) where
-    members_are : in_groups new ≡ (after_fetch out w j tries loss).members
+    members_are : in_groups new ≡ (after_fetch env w j tries loss).members
     members_are =
         ap in_groups new_is
         ∙ map-set in_group members j (member_takes fetched here)
@@ -326,7 +327,7 @@ module _ (passes : ℕ → ℕ → ℕ → ℕ → ℕ → ℕ → Bool) (draw :
       consistent = λ takes. fetched_all_consistently new (put_new takes);
       numbers = λ takes. fetched_numbers new (put_new takes);
       planned = ap (λ (a : MemberState). length (next_parts None (member_holdings a))) old_at ∙ planned_are;
-      came = ap that_came came_is ∙ came_are;
+      came = ap parts_fetched came_is ∙ came_are;
       attempts = ap (λ (xs : List Fetched). sum (map (λ (x : Fetched). x.attempts) xs)) came_is ∙ attempts_are;
       len = ap length (put_in members mid new j left there taken put) ∙ length-set members j left;
       same = λ stays. put_back nobody members mid new j left there taken put (stays ∙ old_at);

@@ -17,7 +17,7 @@ use Rattle.group_model.specs.Publications.{Logs}
 use Rattle.group_model.specs.Member.{Member}
 use Rattle.group_model.specs.Events.{SyncInterest, Event}
 use Rattle.group_model.specs.World.{Environment, World, member}
-use Rattle.group_model.specs.Steps.{reports_too_much, after_deliver, after_hear, hear_outcome, mode_at, drawn}
+use Rattle.group_model.specs.Steps.{exceeds_log, after_deliver, after_hear, hear_outcome, mode_at, drawn}
 use Rattle.group_model.specs.Refusals.{Refusal, has_sent, unless, if_unsent}
 use Rattle.group_model.specs.Changes as group
 use Rattle.group_model.specs.Sound.{IsConsistentVector}
@@ -34,13 +34,13 @@ use Rattle.bench_world.specs.Worlds.{GroupState, IsConsistentState, IsConsistent
 use Rattle.bench_world.specs.Worlds.{world_of}
 use Rattle.bench_world.specs.Worlds.{drawing}
 use Rattle.bench_world.specs.Readings.{read_as}
-use Rattle.bench_world.specs.Hearing.{reported_sync}
+use Rattle.bench_world.specs.Hearing.{accepted_sync}
 use Rattle.bench_world.specs.Steps.{IsFaultOf}
-use Rattle.bench_world.specs.EventValues.{Reported, mode_reported, heard_as, hear_reported}
+use Rattle.bench_world.specs.EventValues.{ReportValue, mode_report, heard_as, hear_report}
 use Rattle.bench_world.proofs.States.{consistent, number_is, member_is, member_set, stepped_at}
 
 abbrev made : ℕ × List ℕ → SyncInterest
-made reported = record { sender = reported.0; vector = reported.1 }
+made received = record { sender = received.0; vector = received.1 }
 
 -- ---- what was sent
 
@@ -80,88 +80,88 @@ sent_vector g logs sender v (p ∷ ps) h all =
 -- ---- the world
 
 -- What is reported of octets by the verdict on them.
-abbrev pub hears_reported : Environment → World → ℕ → Result (ℕ × List ℕ) SyncRefusal → Reported
-hears_reported out w m r = hear_reported m r (hear_outcome out w m (read_as r))
+abbrev pub hears_received : Environment → World → ℕ → Result (ℕ × List ℕ) SyncRefusal → ReportValue
+hears_received env w m r = hear_report m r (hear_outcome env w m (read_as r))
 
 module _ (s : GroupState) (is : IsConsistentState s) (m : ℕ) (there : m < length s.members) (old : MemberState)
     (old_is : old ≡ get_or s.members m old) (r : Result (ℕ × List ℕ) SyncRefusal) where
   too_much : (sync : SyncInterest)
-      → reports_too_much (world_of s) m sync ≡ nat_lt (length old.log) (slice_index sync.vector m)
+      → exceeds_log (world_of s) m sync ≡ nat_lt (length old.log) (slice_index sync.vector m)
   too_much sync =
       ap (λ (x : Member). nat_lt (length x.log) (slice_index sync.vector m)) (member_is s is m there old old_is)
 
   -- ---- octets that are refused
 
   module _ (draws : ℕ → ℕ → ℕ) (x : HearRefusal)
-      (x_is : (x ≡ hear.NoMemory) ⊎ (reported_sync (length old.log) m r ≡ Err x)) where
+      (x_is : (x ≡ hear.NoMemory) ⊎ (accepted_sync (length old.log) m r ≡ Err x)) where
     -- They change nothing, are not foreign, and their refusal is reported.
-    refused_by : (r : Result (ℕ × List ℕ) SyncRefusal) → reported_sync (length old.log) m r ≡ Err x
+    refused_by : (r : Result (ℕ × List ℕ) SyncRefusal) → accepted_sync (length old.log) m r ≡ Err x
         → (if_unsent (world_of s) m (read_as r) ≡ None)
         × (after_hear (drawing draws) (world_of s) m (read_as r) ≡ world_of s)
-        × (hears_reported (drawing draws) (world_of s) m r ≡ Reported.HearRefused m x)
+        × (hears_received (drawing draws) (world_of s) m r ≡ ReportValue.HearRefused m x)
     refused_by (Err refusal) e = (
       refl,
       refl,
       (let same : hear.Sync refusal
-          ≡ x = cc in ap (Reported.HearRefused m) same),
+          ≡ x = cc in ap (ReportValue.HearRefused m) same),
     )
-    refused_by (Ok reported) e = go (nat_lt (length old.log) (slice_index reported.1 m)) refl e where
-      much : (b : Bool) → nat_lt (length old.log) (slice_index reported.1 m) ≡ b
-          → reports_too_much (world_of s) m (made reported) ≡ b
-      much b p = too_much (made reported) ∙ p
+    refused_by (Ok received) e = go (nat_lt (length old.log) (slice_index received.1 m)) refl e where
+      much : (b : Bool) → nat_lt (length old.log) (slice_index received.1 m) ≡ b
+          → exceeds_log (world_of s) m (made received) ≡ b
+      much b p = too_much (made received) ∙ p
 
-      go : (b : Bool) → nat_lt (length old.log) (slice_index reported.1 m) ≡ b
-          → cond b (Err (hear.OwnNumberAhead (length old.log) (slice_index reported.1 m))) (Ok (made reported)) ≡ Err x
-          → (if_unsent (world_of s) m (Some (made reported)) ≡ None)
-          × (after_hear (drawing draws) (world_of s) m (Some (made reported)) ≡ world_of s)
-          × (hears_reported (drawing draws) (world_of s) m (Ok reported) ≡ Reported.HearRefused m x)
+      go : (b : Bool) → nat_lt (length old.log) (slice_index received.1 m) ≡ b
+          → cond b (Err (hear.OwnNumberAhead (length old.log) (slice_index received.1 m))) (Ok (made received)) ≡ Err x
+          → (if_unsent (world_of s) m (Some (made received)) ≡ None)
+          × (after_hear (drawing draws) (world_of s) m (Some (made received)) ≡ world_of s)
+          × (hears_received (drawing draws) (world_of s) m (Ok received) ≡ ReportValue.HearRefused m x)
       go true p h =
-          let same : hear.OwnNumberAhead (length old.log) (slice_index reported.1 m) ≡ x = cc in (
-            ap (λ (b : Bool). cond b None (unless (has_sent (world_of s) (made reported)) Refusal.Foreign))
+          let same : hear.OwnNumberAhead (length old.log) (slice_index received.1 m) ≡ x = cc in (
+            ap (λ (b : Bool). cond b None (unless (has_sent (world_of s) (made received)) Refusal.Foreign))
                 (much true p),
-            ap (λ (b : Bool). cond b (world_of s) (after_deliver (drawing draws) (world_of s) m reported.1))
+            ap (λ (b : Bool). cond b (world_of s) (after_deliver (drawing draws) (world_of s) m received.1))
                 (much true p),
             ap (λ (b : Bool). heard_as m (cond b
-                (Err (length (member (world_of s) m).log, slice_index reported.1 m))
-                (Ok (mode_at (after_deliver (drawing draws) (world_of s) m reported.1) m)))) (much true p)
-                ∙ ap (λ (y : Member). Reported.HearRefused m
-                (hear.OwnNumberAhead (length y.log) (slice_index reported.1 m)))
+                (Err (length (member (world_of s) m).log, slice_index received.1 m))
+                (Ok (mode_at (after_deliver (drawing draws) (world_of s) m received.1) m)))) (much true p)
+                ∙ ap (λ (y : Member). ReportValue.HearRefused m
+                (hear.OwnNumberAhead (length y.log) (slice_index received.1 m)))
                 (member_is s is m there old old_is)
-                ∙ ap (Reported.HearRefused m) same,
+                ∙ ap (ReportValue.HearRefused m) same,
           )
       go false p h = absurd cc
 
     pub refused_so : (x ≡ hear.NoMemory → ⊥)
         → (if_unsent (world_of s) m (read_as r) ≡ None)
         × (after_hear (drawing draws) (world_of s) m (read_as r) ≡ world_of s)
-        × (hears_reported (drawing draws) (world_of s) m r ≡ Reported.HearRefused m x)
+        × (hears_received (drawing draws) (world_of s) m r ≡ ReportValue.HearRefused m x)
     refused_so other = elim x_is [ inl memory ↦ absurd (other memory) | inr e ↦ refused_by r e ]
 
   -- ---- octets that are taken
 
   module _ (sender : ℕ) (v : List ℕ)
-      (e : reported_sync (length old.log) m r ≡ Ok (record { sender = sender; vector = v })) where
+      (e : accepted_sync (length old.log) m r ≡ Ok (record { sender = sender; vector = v })) where
     read : (r ≡ Ok (sender, v)) × (nat_lt (length old.log) (slice_index v m) ≡ false)
     read = by r e where
       by : (r : Result (ℕ × List ℕ) SyncRefusal)
-          → reported_sync (length old.log) m r ≡ Ok (record { sender = sender; vector = v })
+          → accepted_sync (length old.log) m r ≡ Ok (record { sender = sender; vector = v })
           → (r ≡ Ok (sender, v)) × (nat_lt (length old.log) (slice_index v m) ≡ false)
       by (Err refusal) h = absurd cc
-      by (Ok reported) h = go (nat_lt (length old.log) (slice_index reported.1 m)) refl h where
-        go : (b : Bool) → nat_lt (length old.log) (slice_index reported.1 m) ≡ b
-            → cond b (Err (hear.OwnNumberAhead (length old.log) (slice_index reported.1 m))) (Ok (made reported))
+      by (Ok received) h = go (nat_lt (length old.log) (slice_index received.1 m)) refl h where
+        go : (b : Bool) → nat_lt (length old.log) (slice_index received.1 m) ≡ b
+            → cond b (Err (hear.OwnNumberAhead (length old.log) (slice_index received.1 m))) (Ok (made received))
             ≡ Ok (record { sender = sender; vector = v })
-            → (let r : Result (ℕ × List ℕ) SyncRefusal = Ok reported in r ≡ Ok (sender, v))
+            → (let r : Result (ℕ × List ℕ) SyncRefusal = Ok received in r ≡ Ok (sender, v))
             × (nat_lt (length old.log) (slice_index v m) ≡ false)
         go true p h = absurd cc
         go false p h =
-            let same : made reported ≡ record { sender = sender; vector = v } = cc in (
+            let same : made received ≡ record { sender = sender; vector = v } = cc in (
               (λ i. Ok ((same i).sender, (same i).vector)),
               ap (λ (y : SyncInterest). nat_lt (length old.log) (slice_index y.vector m)) (sym same) ∙ p,
             )
 
-    few_reported : reports_too_much (world_of s) m (record { sender = sender; vector = v }) ≡ false
-    few_reported = too_much (record { sender = sender; vector = v }) ∙ read.1
+    within_log : exceeds_log (world_of s) m (record { sender = sender; vector = v }) ≡ false
+    within_log = too_much (record { sender = sender; vector = v }) ∙ read.1
 
     unsent : if_unsent (world_of s) m (read_as r)
         ≡ unless (has_sent (world_of s) (record { sender = sender; vector = v })) Refusal.Foreign
@@ -169,7 +169,7 @@ module _ (s : GroupState) (is : IsConsistentState s) (m : ℕ) (there : m < leng
         ap (λ y. if_unsent (world_of s) m (read_as y)) read.0
         ∙ ap (λ (b : Bool).
         cond b None (unless (has_sent (world_of s) (record { sender = sender; vector = v })) Refusal.Foreign))
-        few_reported
+        within_log
 
     -- They are foreign where the signer didn't send the vector.
     pub foreign_so : (x : EventError)
@@ -223,7 +223,7 @@ module _ (s : GroupState) (is : IsConsistentState s) (m : ℕ) (there : m < leng
         heard_world =
             delivered
             ∙ sym (ap (λ y. after_hear (drawing draws) (world_of s) m (read_as y)) read.0
-            ∙ ap (λ (c : Bool). cond c (world_of s) (after_deliver (drawing draws) (world_of s) m v)) few_reported)
+            ∙ ap (λ (c : Bool). cond c (world_of s) (after_deliver (drawing draws) (world_of s) m v)) within_log)
 
         pub heard_state : s.steps < 100000
             → IsConsistentState (record s {
@@ -240,13 +240,13 @@ module _ (s : GroupState) (is : IsConsistentState s) (m : ℕ) (there : m < leng
             (consistent s is m there old old_is)))
             s.sent s.time (record s.tally { delivered = s.tally.delivered + 1 }) is.sent heard_world
 
-        pub heard_reported : (mode : Mode) → mode ≡ mode_of b.machine.heard
-            → mode_reported m mode ≡ hears_reported (drawing draws) (world_of s) m r
-        heard_reported mode mode_is =
-            ap (mode_reported m)
+        pub heard_received : (mode : Mode) → mode ≡ mode_of b.machine.heard
+            → mode_report m mode ≡ hears_received (drawing draws) (world_of s) m r
+        heard_received mode mode_is =
+            ap (mode_report m)
             (mode_is ∙ ap (λ (y : Member). mode_of y.machine.heard) (sym (member_set s.members m b there))
             ∙ ap (λ (w : World). mode_at w m) delivered)
-            ∙ sym (ap (hears_reported (drawing draws) (world_of s) m) read.0
+            ∙ sym (ap (hears_received (drawing draws) (world_of s) m) read.0
             ∙ ap (λ (c : Bool). heard_as m (cond c
             (Err (length (member (world_of s) m).log, slice_index v m))
-            (Ok (mode_at (after_deliver (drawing draws) (world_of s) m v) m)))) few_reported)
+            (Ok (mode_at (after_deliver (drawing draws) (world_of s) m v) m)))) within_log)

@@ -142,10 +142,10 @@ may_foreign w m (Ok order) e = ap (λ (b : Bool). unless b Refusal.Foreign) e
 may_foreign w m (Err code) e = absurd (true≢false e)
 
 -- What keeps an order from being carried out is out of memory, or that it is foreign.
-pub order_fault : (w : World) (m : ℕ) (r : Result (ℕ × Command) ℕ) (reported : EventError)
-    → (reported ≡ fault.NoMemory) ⊎ ((reported ≡ fault.Foreign) × (may_order w.issued m r ≡ false))
-    → IsFaultOf (if_unissued w m r) reported
-order_fault w m r reported (inl memory) = subst (IsFaultOf (if_unissued w m r)) (sym memory) tt
-order_fault w m r reported (inr (foreign, e)) =
+pub order_fault : (w : World) (m : ℕ) (r : Result (ℕ × Command) ℕ) (received : EventError)
+    → (received ≡ fault.NoMemory) ⊎ ((received ≡ fault.Foreign) × (may_order w.issued m r ≡ false))
+    → IsFaultOf (if_unissued w m r) received
+order_fault w m r received (inl memory) = subst (IsFaultOf (if_unissued w m r)) (sym memory) tt
+order_fault w m r received (inr (foreign, e)) =
     subst (IsFaultOf (if_unissued w m r)) (sym foreign)
     (subst (λ (why : Option Refusal). IsFaultOf why fault.Foreign) (sym (may_foreign w m r e)) refl)

@@ -17,9 +17,9 @@ unfolded : (v : List ℕ) (vs : List (List ℕ)) → join_all (v ∷ vs) ≡ joi
 unfolding join_all
 unfolded v vs = refl
 
-nothing_reported : join_all [] ≡ []
+nothing_received : join_all [] ≡ []
 unfolding join_all
-nothing_reported = refl
+nothing_received = refl
 
 pub joined_width : (members : List MemberState) (n : ℕ) → 0 < length members
     → ((j : ℕ) → j < length members → length (state_at members j).known ≡ n) → length (join_all (knowns members)) ≡ n
@@ -63,18 +63,18 @@ pub all_ends : (members : List MemberState) (i : ℕ) (all : List ℕ) → lengt
     → join all (join_all (knowns (drop i members))) ≡ join_all (knowns members) → all ≡ join_all (knowns members)
 all_ends members i all l h =
     sym (join-[] all)
-    ∙ ap (join all) (sym nothing_reported)
+    ∙ ap (join all) (sym nothing_received)
     ∙ ap (λ (ms : List MemberState). join all (join_all (knowns ms))) (sym (drop_all i members l))
     ∙ h
 
 pub nobody_knows : (members : List MemberState) → length members ≤ 0 → join_all (knowns members) ≡ []
-nobody_knows [] none = nothing_reported
+nobody_knows [] none = nothing_received
 nobody_knows (m ∷ ms) none = absurd (omega (arith, none))
 
 pub joined_short : (members : List MemberState)
     → ((j : ℕ) → j < length members → length (state_at members j).known ≡ length members)
     → length (join_all (knowns members)) ≤ length members
-joined_short [] wide = let e : length (join_all []) ≡ 0 = ap length nothing_reported in omega (arith, e)
+joined_short [] wide = let e : length (join_all []) ≡ 0 = ap length nothing_received in omega (arith, e)
 joined_short (m ∷ ms) wide =
     let e : length (join_all (knowns (m ∷ ms))) ≡ suc (length ms) =
     joined_width (m ∷ ms) (suc (length ms)) (omega arith) wide in

@@ -9,16 +9,16 @@ use Rattle.repo_plan.specs.declared.part.Part.{Part}
 use Rattle.sorted_lists.specs.SortedList.{keys, contains}
 use Rattle.repo_plan.specs.Parts.{Pair, pair_cmp, part_cmp, pair_of, record_of}
 use Rattle.group_model.specs.Publications.{all_parts}
-use Rattle.group_model.specs.Member.{Member, member_holds, member_hides}
+use Rattle.group_model.specs.Member.{Member, member_holds, has_deleted}
 use Rattle.group_model.specs.World.{World, no_member, member, logs, someone_holds}
 use Rattle.group_model.specs.Settles.{learnt_member}
-use Rattle.group_model.specs.Steps.{settled_member, settled_vector, new_parts, comes_to}
+use Rattle.group_model.specs.Steps.{settled_member, settled_vector, new_parts, is_gained}
 use Rattle.group_model.specs.Sound.{IsSoundGroup}
 use Rattle.group_model.proofs.Among.{in_all_parts}
 use Rattle.group_model.proofs.Gains.{held_either}
 use Rattle.group_model.proofs.Lists.{at_in, from_filter, in_at}
 use Rattle.group_model.proofs.Members.{known_published}
-use Rattle.group_model.proofs.Settles.{someone, holder, comes, gets, keeps_held, reported_by}
+use Rattle.group_model.proofs.Settles.{someone, holder, comes, gets, keeps_held, knows_settled}
 use Rattle.repo_member.specs.MemberState.{MemberState}
 use Rattle.repo_member.specs.InGroup.{in_group}
 use Rattle.bench_world.specs.declared.touched.Touched.{Touched}
@@ -36,8 +36,8 @@ all_touched n ms all j l t held off = absurd (true≢false (sym (or_left n.all _
 -- What a member holds it goes on to hold, unless it hides that publication then, and what it hides stays hidden.
 pub record KeepsHeld (old new : Member) : Type 0 where
   pub held : (t : Part) → member_holds old t ≡ true
-      → (member_holds new t ≡ true) ⊎ (member_hides new (pair_of t) ≡ true)
-  pub hidden : (pair : Pair) → member_hides old pair ≡ true → member_hides new pair ≡ true
+      → (member_holds new t ≡ true) ⊎ (has_deleted new (pair_of t) ≡ true)
+  pub hidden : (pair : Pair) → has_deleted old pair ≡ true → has_deleted new pair ≡ true
 
 pub same_kept : (m : Member) → KeepsHeld m m
 same_kept m = record { held = λ t h. inl h; hidden = λ pair h. h }
@@ -237,7 +237,7 @@ module _ (w : World) (group : IsSoundGroup w) where
       → member_holds (settled_member w (member w j)) t ≡ true → someone_holds w.members t ≡ true
   settled_someone j t l h = elim (held_either (new_parts w (member w j)) (member w j) t h) [
     | inl i ↦
-        (comes w (member w j) t (from_filter (comes_to w (member w j)) (all_parts (logs w)) t i).1).someones
+        (comes w (member w j) t (from_filter (is_gained w (member w j)) (all_parts (logs w)) t i).1).someones
     | inr was ↦ here_someone w.members j t l was
   ]
 
@@ -258,14 +258,14 @@ module _ (w : World) (group : IsSoundGroup w) where
 
   -- Who doesn't hide it gets what someone holds.
   gets_it : (j : ℕ) (t : Part) → j < length w.members → someone_holds w.members t ≡ true
-      → member_hides (member w j) (pair_of t) ≡ false → member_holds (settled_member w (member w j)) t ≡ true
+      → has_deleted (member w j) (pair_of t) ≡ false → member_holds (settled_member w (member w j)) t ≡ true
   gets_it j t l h open_ = elim (cases_Bool (member_holds (member w j) t)) [
     | inl on ↦ keeps_held w group j l t on
     | inr off ↦
         let k = at_holder w.members t h in
         let soundly = (group.members k.0 k.1).held t k.2 in
         let known : get_or (member w k.0).known t.publisher 0 ≤ get_or (settled_vector w) t.publisher 0 =
-        reported_by w group j l k.0 t.publisher k.1 in
+        knows_settled w group j l k.0 t.publisher k.1 in
         let far : t.seq ≤ get_or (member w k.0).known t.publisher 0 = soundly.known.to_known in
         gets w group j l t
         (in_all_parts (logs w) t (record {
@@ -274,7 +274,7 @@ module _ (w : World) (group : IsSoundGroup w) where
           counted = soundly.counted;
         }))
         (record {
-          reported = omega (arith, known, far);
+          received = omega (arith, known, far);
           not_hidden = open_;
           someones = h;
           record_too = here_someone w.members k.0 (record_of t) k.1 soundly.with_record;
@@ -287,8 +287,8 @@ module _ (w : World) (group : IsSoundGroup w) where
   settled_lacks n new is = subst (NoneLacks n) (sym is) (λ j l t held off.
       let inside : j < length (map (settled_member w) w.members) = l in
       let there : j < length w.members = omega (arith, inside, wide) in
-      subst (λ (m : Member). (member_holds m t ≡ true) ⊎ (member_hides m (pair_of t) ≡ true)) (sym (settled_at j there))
-      (elim (cases_Bool (member_hides (member w j) (pair_of t))) [
+      subst (λ (m : Member). (member_holds m t ≡ true) ⊎ (has_deleted m (pair_of t) ≡ true)) (sym (settled_at j there))
+      (elim (cases_Bool (has_deleted (member w j) (pair_of t))) [
         | inl hides ↦ inr hides
         | inr open_ ↦ inl (gets_it j t there (gathered_someone t held) open_)
       ]))

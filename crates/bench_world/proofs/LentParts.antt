@@ -13,7 +13,7 @@ use Rattle.repo_holdings.specs.HoldingsState.{held_plan}
 use Rattle.group_model.proofs.Lists.{same_filter}
 use Rattle.repo_member.specs.MemberState.{MemberState}
 use Rattle.bench_world.specs.declared.touched.Touched.{Touched}
-use Rattle.bench_world.specs.Holders.{HolderWords, AreHolders}
+use Rattle.bench_world.specs.Holders.{HolderPredicates, AreHolders}
 use Rattle.bench_world.specs.Touching.{touches, one_holds, lend_touched, LacksOnlyTouched}
 use Rattle.bench_world.specs.Lending.{or_else, lent, lends}
 use Rattle.bench_world.proofs.NextParts.{from_later}
@@ -29,7 +29,8 @@ lends_held (a ∷ others) t =
       go (Some octets) e h = ap (λ (b : Bool). b || one_holds others t) e
 
 -- Of what a holder wants the others lend just what they lend of touched publications, where it lacks nothing else.
-module _ {H : Type 0} (words : HolderWords H) (holders : AreHolders words) (n : Touched) (others : List MemberState)
+module _ {H : Type 0} (words : HolderPredicates H) (holders : AreHolders words) (n : Touched)
+    (others : List MemberState)
     (s : H) (lacks : LacksOnlyTouched words n others s) where
   not_lent : (t : Part) → is_unclaimed (held_plan (words.holdings s)) t ≡ true → touches n (pair_of t) ≡ false
       → lends others t ≡ false

@@ -11,10 +11,10 @@ use Rattle.repo_plan.specs.Parts.{part_cmp, pair_of, record_of}
 use Rattle.repo_plan.specs.Plan.{PlanState, no_claims, is_wanted, is_unclaimed, is_claimed, is_claim_of}
 use Rattle.sorted_lists.proofs.Sets.{in_filter}
 use Rattle.group_model.specs.Publications.{Logs, all_parts}
-use Rattle.group_model.specs.Member.{Member, member_holds, member_hides}
+use Rattle.group_model.specs.Member.{Member, member_holds, has_deleted}
 use Rattle.group_model.specs.World.{World, no_member, member, logs, someone_holds}
-use Rattle.group_model.specs.Settles.{learnt_member, IsGathering, HasGathered}
-use Rattle.group_model.specs.Steps.{settled_vector, settled_member, comes_to, new_parts}
+use Rattle.group_model.specs.Settles.{learnt_member, IsGathering, HasFetchedAll}
+use Rattle.group_model.specs.Steps.{settled_vector, settled_member, is_gained, new_parts}
 use Rattle.group_model.specs.Sound.{IsSoundGroup, IsSoundMember}
 use Rattle.group_model.proofs.Among.{in_all_parts}
 use Rattle.group_model.proofs.Gains.{held_too, held_new}
@@ -22,7 +22,7 @@ use Rattle.group_model.proofs.Lists.{in_at}
 use Rattle.group_model.proofs.Members.{known_published}
 use Rattle.group_model.proofs.Plans.{wanted_parts}
 use Rattle.group_model.proofs.PublicLaws.{gathering_settles}
-use Rattle.group_model.proofs.Settles.{comes_from, someone, reported_by}
+use Rattle.group_model.proofs.Settles.{comes_from, someone, knows_settled}
 use Rattle.repo_member.specs.Groups.{GroupKeys}
 use Rattle.repo_member.specs.MemberState.{MemberState, member_plan}
 use Rattle.repo_member.specs.InGroup.{in_group, AreLogs}
@@ -65,12 +65,12 @@ module _ (w : World) (group : IsSoundGroup w) (j : ℕ) (there : j < length w.me
       | inr holds ↦ holds
     ]
 
-    not_hidden : (t : Part) → member_holds new t ≡ true → member_hides (member w j) (pair_of t) ≡ false
-    not_hidden t h = elim (cases_Bool (member_hides (member w j) (pair_of t))) [
+    not_hidden : (t : Part) → member_holds new t ≡ true → has_deleted (member w j) (pair_of t) ≡ false
+    not_hidden t h = elim (cases_Bool (has_deleted (member w j) (pair_of t))) [
       | inl on ↦
           absurd (true≢false
           (sym h ∙ (sound.hidden (pair_of t)
-          (ap (λ (x : Member). member_hides x (pair_of t)) gathering.same ∙ on)).none_held t.part))
+          (ap (λ (x : Member). has_deleted x (pair_of t)) gathering.same ∙ on)).none_held t.part))
       | inr off ↦ off
     ]
 
@@ -78,15 +78,15 @@ module _ (w : World) (group : IsSoundGroup w) (j : ℕ) (there : j < length w.me
         → member_holds (settled_member w (member w j)) t ≡ true
     comes_new t h fresh =
         let held = sound.held t h in
-        let comes : comes_to w (member w j) t ≡ true = comes_from w (member w j) t (record {
-          reported = subst (λ (v : List ℕ). t.seq ≤ get_or v t.publisher 0) known_is held.known.to_known;
+        let comes : is_gained w (member w j) t ≡ true = comes_from w (member w j) t (record {
+          received = subst (λ (v : List ℕ). t.seq ≤ get_or v t.publisher 0) known_is held.known.to_known;
           not_hidden = not_hidden t h;
           someones = someone_has t h;
           record_too = someone_has (record_of t) held.with_record;
           fresh = fresh;
         }) in
         held_new (new_parts w (member w j)) (member w j) t
-        (in_filter (comes_to w (member w j)) (all_parts (logs w)) t
+        (in_filter (is_gained w (member w j)) (all_parts (logs w)) t
         (in_all_parts (logs w) t (record {
           there = known_published (logs w) new.known (pair_of t) sound.known held.known;
           counted = held.counted;
@@ -104,7 +104,7 @@ module _ (w : World) (group : IsSoundGroup w) (j : ℕ) (there : j < length w.me
       width = sound.width ∙ sym (group.members j there).width;
       known_more =
           λ p. subst (λ (v : List ℕ). get_or (member w j).known p 0 ≤ get_or v p 0) (sym known_is)
-          (reported_by w group j there j p there);
+          (knows_settled w group j there j p there);
       known_less = λ p. ap_le p;
       kept = gathering.kept;
       came = λ t h. elim (cases_Bool (member_holds (member w j) t)) [
@@ -129,7 +129,7 @@ module _ (w : World) (group : IsSoundGroup w) (j : ℕ) (there : j < length w.me
     claims = inl refl;
     width = refl;
     known_more = λ p. omega arith;
-    known_less = λ p. reported_by w group j there j p there;
+    known_less = λ p. knows_settled w group j there j p there;
     kept = λ t h. h;
     came = λ t h. held_too (new_parts w (member w j)) (member w j) t h;
   }
@@ -175,7 +175,7 @@ module _ (g : GroupKeys) (w : World) (group : IsSoundGroup w) (are : AreLogs g (
         (ap (λ (x : Member). list_any (is_claim_of t) x.claims) same ∙ none_claimed t))
 
     -- What it wants nobody holds.
-    gathered : HasGathered w (in_group new)
+    gathered : HasFetchedAll w (in_group new)
     gathered t wanted = elim (cases_Bool (someone_holds w.members t)) [
       | inl someone_ ↦
           let want : is_wanted (member_plan new) t ≡ true =

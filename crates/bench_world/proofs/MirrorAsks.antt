@@ -16,16 +16,16 @@ use Rattle.repo_holdings.specs.Taking.{Fetched}
 use Rattle.group_model.specs.Member.{Member, with_each_tried}
 use Rattle.group_model.specs.World.{World, logs, someone_holds}
 use Rattle.group_model.proofs.Lists.{same_filter}
-use Rattle.repo_mirror.specs.Asked.{is_kept}
+use Rattle.repo_mirror.specs.Asked.{is_for}
 use Rattle.repo_mirror.specs.Mirrors.{mirror_holds, IsWantedByMirror}
 use Rattle.repo_member.specs.Groups.{GroupKeys}
 use Rattle.repo_member.specs.MemberState.{MemberState}
-use Rattle.repo_member.specs.InGroup.{AreLogs, that_came}
+use Rattle.repo_member.specs.InGroup.{AreLogs, parts_fetched}
 use Rattle.repo_mirror.specs.MirrorState.{MirrorState, mirror_holdings, fetch_plan}
-use Rattle.repo_mirror.specs.Passing.{is_fetched_kept}
+use Rattle.repo_mirror.specs.Passing.{is_fetch_for}
 use Rattle.repo_mirror.specs.ConsistentMirrors.{mirror_in_group, IsConsistentMirror}
 use Rattle.repo_mirror.proofs.PublicLaws.{mirrors_plan_alike, mirrors_want_alike, mirrors_take_consistent}
-use Rattle.bench_world.specs.Lending.{attempt_comes}
+use Rattle.bench_world.specs.Lending.{attempt_passes}
 use Rattle.bench_world.specs.Gathering.{next_parts}
 use Rattle.bench_world.specs.Fetching.{attempt_at, fetched_one}
 use Rattle.bench_world.specs.MirrorSteps.{mirror_fetched, mirror_fetches}
@@ -42,7 +42,7 @@ module _ (passes : ℕ → ℕ → ℕ → ℕ → ℕ → ℕ → Bool) (g : Gr
     (members : List MemberState) (begun : in_groups members ≡ w.members) (m : MirrorState)
     (consistent : IsConsistentMirror g (logs w) m) (i tries loss : ℕ) where
   abbrev way : Part → ℕ → Bool
-  way = attempt_comes passes (16 + i) (Some loss)
+  way = attempt_passes passes (16 + i) (Some loss)
 
   -- ---- what it asks for
 
@@ -67,7 +67,7 @@ module _ (passes : ℕ → ℕ → ℕ → ℕ → ℕ → ℕ → Bool) (g : Gr
   -- ---- what comes
 
   attempt_is : (t : Part)
-      → attempt_at (attempt_comes passes (16 + i) (Some loss)) members tries (mirror_holdings m) t
+      → attempt_at (attempt_passes passes (16 + i) (Some loss)) members tries (mirror_holdings m) t
       ≡ mirror_attempt passes w i tries loss m t
   attempt_is t =
       ap (λ (b : Bool). cond b
@@ -75,7 +75,7 @@ module _ (passes : ℕ → ℕ → ℕ → ℕ → ℕ → ℕ → Bool) (g : Gr
       (numbers_from 1 tries)) None)
       (lends_held members t ∙ ap (λ (ms : List Member). someone_holds ms t) begun)
 
-  pub gets_are : that_came (mirror_fetched passes members i tries loss m) ≡ mirror_gets passes w i tries loss m
+  pub gets_are : parts_fetched (mirror_fetched passes members i tries loss m) ≡ mirror_gets passes w i tries loss m
   gets_are =
       came_same way members tries (mirror_holdings m) (next_parts None (mirror_holdings m))
       ∙ filter_agree (λ t. is_some (attempt_at way members tries (mirror_holdings m) t))
@@ -97,13 +97,13 @@ module _ (passes : ℕ → ℕ → ℕ → ℕ → ℕ → ℕ → Bool) (g : Gr
 
   module _ (all : AreConsistentMembers g (logs w) members) where
     counts_are : (t : Part) → In t (next_parts None (mirror_holdings m))
-        → is_fetched_kept m.pattern (fetched_one way members tries (mirror_holdings m) t)
-        ≡ (is_kept m.pattern (logs w) (pair_of t) || not (is_some (mirror_attempt passes w i tries loss m t)))
+        → is_fetch_for m.pattern (fetched_one way members tries (mirror_holdings m) t)
+        ≡ (is_for m.pattern (logs w) (pair_of t) || not (is_some (mirror_attempt passes w i tries loss m t)))
     counts_are t asked =
         counts g (logs w) m (fetched_one way members tries (mirror_holdings m) t) are consistent
         (for_mirror g (logs w) m (fetched_one way members tries (mirror_holdings m) t) are consistent
         (fetched_comes way members tries (mirror_holdings m) g (logs w) all None t asked))
-        ∙ ap (λ (b : Bool). is_kept m.pattern (logs w) (pair_of t) || not b)
+        ∙ ap (λ (b : Bool). is_for m.pattern (logs w) (pair_of t) || not b)
         (came_some way members tries (mirror_holdings m) t ∙ ap is_some (attempt_is t))
 
     tried_are : (mirror_fetches passes members i tries loss m).attempts
@@ -111,15 +111,15 @@ module _ (passes : ℕ → ℕ → ℕ → ℕ → ℕ → ℕ → Bool) (g : Gr
     tried_are =
         let more : Part → ℕ = mirror_attempts passes w i tries loss m in
         let ts : List Part = next_parts None (mirror_holdings m) in
-        tries_each more (filter (is_fetched_kept m.pattern) (mirror_fetched passes members i tries loss m)) m.attempts
-        (kept_tries way members tries (mirror_holdings m) (is_fetched_kept m.pattern) ts more
+        tries_each more (filter (is_fetch_for m.pattern) (mirror_fetched passes members i tries loss m)) m.attempts
+        (kept_tries way members tries (mirror_holdings m) (is_fetch_for m.pattern) ts more
         (λ t. ap (λ (o : Option ℕ). unwrap_or o tries) (attempt_is t)))
         ∙ ap (λ (us : List Part). with_each_tried more us m.attempts)
-        (kept_parts way members tries (mirror_holdings m) (is_fetched_kept m.pattern) ts
-        ∙ same_filter (λ t. is_fetched_kept m.pattern (fetched_one way members tries (mirror_holdings m) t))
-        (λ t. is_kept m.pattern (logs w) (pair_of t) || not (is_some (mirror_attempt passes w i tries loss m t))) ts
+        (kept_parts way members tries (mirror_holdings m) (is_fetch_for m.pattern) ts
+        ∙ same_filter (λ t. is_fetch_for m.pattern (fetched_one way members tries (mirror_holdings m) t))
+        (λ t. is_for m.pattern (logs w) (pair_of t) || not (is_some (mirror_attempt passes w i tries loss m t))) ts
         counts_are
-        ∙ ap (filter (λ t. is_kept m.pattern (logs w) (pair_of t)
+        ∙ ap (filter (λ t. is_for m.pattern (logs w) (pair_of t)
         || not (is_some (mirror_attempt passes w i tries loss m t)))) asks_are)
 
     pub has_fetched : HasFetched passes w i tries loss m (mirror_fetches passes members i tries loss m)

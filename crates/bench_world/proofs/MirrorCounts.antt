@@ -11,36 +11,36 @@ use Rattle.repo_plan.proofs.Orders.{exact_parts}
 use Rattle.repo_holdings.specs.Hiding.{with_hidden}
 use Rattle.repo_holdings.specs.Taking.{Fetched, with_all_fetched}
 use Rattle.group_model.specs.Publications.{Logs}
-use Rattle.repo_mirror.specs.Asked.{is_kept}
+use Rattle.repo_mirror.specs.Asked.{is_for}
 use Rattle.repo_mirror.specs.Mirrors.{mirror_holds, IsWantedByMirror}
 use Rattle.repo_member.specs.Groups.{GroupKeys}
-use Rattle.repo_member.specs.InGroup.{AreLogs, asked_for, that_came}
+use Rattle.repo_member.specs.InGroup.{AreLogs, asked_for, parts_fetched}
 use Rattle.repo_mirror.specs.MirrorState.{MirrorState}
-use Rattle.repo_mirror.specs.Passing.{is_packet_kept, is_fetched_kept, mirror_takes}
-use Rattle.repo_mirror.specs.ConsistentMirrors.{mirror_in_group, IsConsistentMirror, CameForMirror, TakesConsistently}
+use Rattle.repo_mirror.specs.Passing.{is_packet_for, is_fetch_for, mirror_takes}
+use Rattle.repo_mirror.specs.ConsistentMirrors.{mirror_in_group, IsConsistentMirror, FetchForMirror, TakesConsistently}
 use Rattle.repo_mirror.proofs.PublicLaws.{mirrors_want_alike, mirrors_take_consistent}
 use Rattle.bench_world.proofs.Timers.{all_one}
 
 module _ (g : GroupKeys) (logs : Logs) (m : MirrorState) (x : Fetched) (are : AreLogs g logs)
-    (consistent : IsConsistentMirror g logs m) (come : CameForMirror g logs m x) where
+    (consistent : IsConsistentMirror g logs m) (come : FetchForMirror g logs m x) where
   wanted : IsWantedByMirror m.pattern logs (mirror_in_group m) x.part
   wanted = (mirrors_want_alike g logs m x.part are consistent).0 come.part_wanted
 
   takes : TakesConsistently g logs (x ∷ []) m
-  takes = mirrors_take_consistent g logs m (x ∷ []) are consistent (all_one (CameForMirror g logs m) x come)
+  takes = mirrors_take_consistent g logs m (x ∷ []) are consistent (all_one (FetchForMirror g logs m) x come)
 
   -- Where it came it is held.
   held_now : is_some x.packet ≡ true → mirror_holds (mirror_in_group (mirror_takes (x ∷ []) m)) x.part ≡ true
   held_now some =
       takes.held x.part ∙ ap (λ (b : Bool). b || mirror_holds (mirror_in_group m) x.part) came where
-        came : contains part_cmp (that_came (x ∷ [])) x.part ≡ true
+        came : contains part_cmp (parts_fetched (x ∷ [])) x.part ≡ true
         came =
             ap (λ (b : Bool). contains part_cmp (asked_for (cond b (x ∷ []) [])) x.part) some
             ∙ contains_in exact_parts (x.part ∷ []) x.part (inl refl)
 
   -- It is kept just where its publication is.
-  kept_came : (b : Bool) → is_fetched_kept m.pattern x ≡ b → is_some x.packet ≡ true
-      → is_kept m.pattern logs (pair_of x.part) ≡ b
+  kept_came : (b : Bool) → is_fetch_for m.pattern x ≡ b → is_some x.packet ≡ true
+      → is_for m.pattern logs (pair_of x.part) ≡ b
   kept_came true kept some =
       let was = or_parts (contains part_cmp (keys m.store) x.part)
       (x.part.part == 0 && contains pair_cmp m.passed (pair_of x.part)) wanted.not_held in
@@ -69,23 +69,23 @@ module _ (g : GroupKeys) (logs : Logs) (m : MirrorState) (x : Fetched) (are : Ar
       ]
 
   -- Its attempts count unless it is a record that is passed over.
-  pub counts : is_fetched_kept m.pattern x ≡ (is_kept m.pattern logs (pair_of x.part) || not (is_some x.packet))
+  pub counts : is_fetch_for m.pattern x ≡ (is_for m.pattern logs (pair_of x.part) || not (is_some x.packet))
   counts = elim (cases_Bool (is_some x.packet)) [
     | inl some ↦
-        sym (kept_came (is_fetched_kept m.pattern x) refl some)
-        ∙ came (is_kept m.pattern logs (pair_of x.part))
-        ∙ ap (λ (b : Bool). is_kept m.pattern logs (pair_of x.part) || not b) (sym some)
+        sym (kept_came (is_fetch_for m.pattern x) refl some)
+        ∙ came (is_for m.pattern logs (pair_of x.part))
+        ∙ ap (λ (b : Bool). is_for m.pattern logs (pair_of x.part) || not b) (sym some)
     | inr none ↦
         lost x.packet none
-        ∙ lost_too (is_kept m.pattern logs (pair_of x.part))
-        ∙ ap (λ (b : Bool). is_kept m.pattern logs (pair_of x.part) || not b) (sym none)
+        ∙ lost_too (is_for m.pattern logs (pair_of x.part))
+        ∙ ap (λ (b : Bool). is_for m.pattern logs (pair_of x.part) || not b) (sym none)
   ] where
     came : (b : Bool) → b ≡ (b || not true)
     came true = refl
     came false = refl
 
     lost : (o : Option (List ℕ)) → is_some o ≡ false
-        → unwrap_or (option_map (is_packet_kept m.pattern x.part) o) true ≡ true
+        → unwrap_or (option_map (is_packet_for m.pattern x.part) o) true ≡ true
     lost None h = refl
     lost (Some octets) h = absurd (true≢false h)
 

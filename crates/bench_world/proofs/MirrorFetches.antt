@@ -27,7 +27,7 @@ use Rattle.bench_world.specs.declared.holder.Filtering.{Filtering}
 use Rattle.bench_world.specs.Lending.{lent, lends}
 use Rattle.bench_world.specs.Gathering.{next_parts}
 use Rattle.bench_world.specs.Fetching.{attempt_at, fetched_one, fetched_all}
-use Rattle.bench_world.specs.Holders.{CameForHolder}
+use Rattle.bench_world.specs.Holders.{FetchForHolder}
 use Rattle.bench_world.specs.Worlds.{AreConsistentMembers}
 use Rattle.bench_world.proofs.PhaseOutcomes.{lends_consistent}
 use Rattle.bench_world.proofs.NextParts.{all_from_in, next_unclaimed, next_rise}
@@ -127,7 +127,7 @@ module _ (passes : Part → ℕ → Bool) (others : List MemberState) (tries : �
   -- What comes of the parts that are asked for comes truly.
   module _ (g : GroupKeys) (logs : Logs) (all : AreConsistentMembers g logs others) (after : Option Part) where
     pub fetched_comes : (t : Part) → In t (next_parts after h)
-        → CameForHolder g logs h (fetched_one passes others tries h t)
+        → FetchForHolder g logs h (fetched_one passes others tries h t)
     fetched_comes t i = record {
       unclaimed = next_unclaimed h after t i;
       packet = lent_if (is_some (attempt_at passes others tries h t)) (lent others t) refl;
@@ -138,7 +138,8 @@ module _ (passes : Part → ℕ → Bool) (others : List MemberState) (tries : �
       lent_if true (Some octets) e = lends_consistent g logs others all t octets e
       lent_if false o e = tt
 
-    pub fetched_come : All (CameForHolder g logs h) (fetched_all passes others tries h (next_parts after h))
-    fetched_come = all_from_in (CameForHolder g logs h) (fetched_all passes others tries h (next_parts after h)) (λ x i.
+    pub fetched_come : All (FetchForHolder g logs h) (fetched_all passes others tries h (next_parts after h))
+    fetched_come = all_from_in (FetchForHolder g logs h) (fetched_all passes others tries h (next_parts after h))
+        (λ x i.
         let r = from_map (fetched_one passes others tries h) (next_parts after h) x i in
-        subst (CameForHolder g logs h) (sym r.2) (fetched_comes r.0 r.1))
+        subst (FetchForHolder g logs h) (sym r.2) (fetched_comes r.0 r.1))

@@ -13,7 +13,7 @@ use Rattle.repo_member.specs.MemberState.{MemberState}
 use Rattle.repo_mirror.specs.MirrorState.{MirrorState, mirror_holdings, fetch_plan}
 use Rattle.repo_mirror.specs.ConsistentMirrors.{IsConsistentMirror}
 use Rattle.bench_world.specs.declared.touched.Touched.{Touched}
-use Rattle.bench_world.specs.Conditions.{CanGatherFor}
+use Rattle.bench_world.specs.Conditions.{CanFetchAllFor}
 use Rattle.bench_world.specs.Lending.{lends}
 use Rattle.bench_world.specs.Gathering.{one_each, Counts, GainsParts, NothingLeft}
 use Rattle.bench_world.specs.MirrorSettles.{HasSettled, IsPartlySettledMirror, held_by}
@@ -40,25 +40,25 @@ pub record HasGatheredAt (g : GroupKeys) (lenders : List MemberState) (ms new : 
   pub held : (n : ℕ) → Counts state_words one_each n learnt left
       → n + held_by (mirror_at ms i) ≡ held_by (mirror_at new i)
 
-module _ (g : GroupKeys) (workers i : ℕ) (lenders : List MemberState) (touched : Touched) (reported : List ℕ)
-    (ms : List MirrorState) (can : CanGatherFor g workers i lenders touched reported ms) (old : MirrorState)
+module _ (g : GroupKeys) (workers i : ℕ) (lenders : List MemberState) (touched : Touched) (received : List ℕ)
+    (ms : List MirrorState) (can : CanFetchAllFor g workers i lenders touched received ms) (old : MirrorState)
     (old_is : old ≡ get_or ms i old) where
   old_at : old ≡ mirror_at ms i
   old_at = old_is ∙ get_or_default ms i old no_mirror can.there
 
   -- It has a number for each member.
-  pub as_wide : length reported ≡ length old.known
+  pub as_wide : length received ≡ length old.known
   as_wide =
       ap length can.known
       ∙ (settled_consistently g (only_members lenders) can.logs.are can.sound lenders refl can.others).width
       ∙ sym can.consistent.vector.width
       ∙ sym (ap (λ (m : MirrorState). length m.known) old_at)
 
-  module _ (learnt : MirrorState) (learnt_is : learnt ≡ mirror_learns reported old) where
+  module _ (learnt : MirrorState) (learnt_is : learnt ≡ mirror_learns received old) where
     learnt_at : learnt ≡ mirror_learns (settled_vector (only_members lenders)) (mirror_at ms i)
     learnt_at =
         learnt_is
-        ∙ ap (mirror_learns reported) old_at
+        ∙ ap (mirror_learns received) old_at
         ∙ ap (λ (v : List ℕ). mirror_learns v (mirror_at ms i)) can.known
 
     pub consistently_learnt : IsConsistentMirror g (logs_around lenders) learnt
@@ -74,7 +74,7 @@ module _ (g : GroupKeys) (workers i : ℕ) (lenders : List MemberState) (touched
         → knows (fetch_plan learnt) (pair_of t) ≡ true
         → (contains part_cmp (mirror_held learnt) t ≡ true) ⊎ (contains pair_cmp learnt.passed (pair_of t) ≡ true)
     lacks_touched =
-        learnt_has touched lenders reported old learnt learnt_is
+        learnt_has touched lenders received old learnt learnt_is
         (subst (MirrorLacksNone touched (someone_holds (in_groups lenders))) (sym old_at) can.lacks)
 
     pub gathered : (mid new : List MirrorState) (left : MirrorState) → mid ≡ remove ms i → new ≡ insert mid i left

@@ -17,9 +17,9 @@ use Rattle.group_model.specs.Member.{Member}
 use Rattle.group_model.specs.World.{World, logs, someone_holds}
 use Rattle.group_model.specs.Steps.{settled_vector}
 use Rattle.group_model.specs.Sound.{IsSoundGroup, IsConsistentVector}
-use Rattle.group_model.specs.Laws.{NothingHidden}
+use Rattle.group_model.specs.Laws.{NothingDeleted}
 use Rattle.repo_mirror.specs.Mirrors.{mirror_holds, IsWantedByMirror, IsSoundMirror}
-use Rattle.repo_mirror.specs.MirrorLaws.{IsGathering, GainsThose, HasComeToRest, KnowsAll, learns_all}
+use Rattle.repo_mirror.specs.MirrorLaws.{IsGathering, GainsThose, WantsNothingHeld, KnowsAll, learns_all}
 use Rattle.repo_mirror.proofs.Settling.{exactly}
 use Rattle.repo_mirror.proofs.Joins.{learn_all, joins}
 use Rattle.repo_member.specs.Groups.{GroupKeys}
@@ -71,7 +71,7 @@ module _ (w : World) where
 module _ (g : GroupKeys) (w : World) (are : AreLogs g (logs w)) (group : IsSoundGroup w) where
   -- A mirror that has settled lists its join.
   pub lists_join : (old new : MirrorState) → IsConsistentMirror g (logs w) old → IsConsistentMirror g (logs w) new
-      → HasSettled w old new → NothingHidden w → ListsItsJoin w new
+      → HasSettled w old new → NothingDeleted w → ListsItsJoin w new
   lists_join old new consistent after settled clear =
       mirrors_list_alike g (logs w) new are after
       ∙ joins new.pattern w (mirror_in_group new) group clear after.sound knows rest where
@@ -80,9 +80,9 @@ module _ (g : GroupKeys) (w : World) (are : AreLogs g (logs w)) (group : IsSound
             ap (λ (v : List ℕ). get_or v p 0) settled.known
             ∙ learn_all w (mirror_in_group old) group consistent.vector p
 
-        rest : HasComeToRest new.pattern (logs w) w.members (mirror_in_group new)
+        rest : WantsNothingHeld new.pattern (logs w) w.members (mirror_in_group new)
         rest =
-            subst (λ (pattern : Pattern). HasComeToRest pattern (logs w) w.members (mirror_in_group new))
+            subst (λ (pattern : Pattern). WantsNothingHeld pattern (logs w) w.members (mirror_in_group new))
             (sym settled.pattern) settled.rest
 
   module _ (members : List MemberState) (begun : in_groups members ≡ w.members)

@@ -7,12 +7,12 @@ use Rattle.std.proofs.lemmas.List.Elements.{All-append, All-set}
 use Rattle.repo_plan.specs.declared.part.Part.{Part}
 use Rattle.repo_watch.specs.declared.pattern.Pattern.{Pattern}
 use Rattle.group_model.specs.Member.{tries_of}
-use Rattle.repo_mirror.specs.MirrorState.{MirrorState, mirror_opening, mirror_holdings}
-use Rattle.repo_mirror.specs.Passing.{is_fetched_kept}
+use Rattle.repo_mirror.specs.MirrorState.{MirrorState, initial_mirror, mirror_holdings}
+use Rattle.repo_mirror.specs.Passing.{is_fetch_for}
 use Rattle.repo_mirror.specs.ConsistentMirrors.{IsConsistentMirror}
 use Rattle.repo_mirror.proofs.PublicLaws.{mirrors_begin_consistent, mirrors_learn_consistent}
 use Rattle.bench_world.specs.MirrorSteps.{no_mirror, mirror_at, mirror_learns, mirror_fetched, mirror_fetches}
-use Rattle.bench_world.specs.Lending.{attempt_comes}
+use Rattle.bench_world.specs.Lending.{attempt_passes}
 use Rattle.bench_world.specs.MirrorsHold.{mirror_takes_consistently}
 use Rattle.bench_world.specs.Truth.{TriedFew}
 use Rattle.bench_world.specs.Worlds.{GroupState, IsConsistentState, MirrorTriedFew, logs_around, no_packet}
@@ -39,22 +39,22 @@ module _ (s : GroupState) (is : IsConsistentState s) where
   }
 
   pub added_mirror : (pattern : Pattern) (n : ℕ) → n ≡ length s.members → length s.mirrors < 4
-      → (ms : List MirrorState) → ms ≡ s.mirrors ++ mirror_opening pattern n ∷ []
+      → (ms : List MirrorState) → ms ≡ s.mirrors ++ initial_mirror pattern n ∷ []
       → IsConsistentState (record s { mirrors = ms })
   added_mirror pattern n n_is few ms ms_is =
       with_mirrors ms
       (subst (All (IsConsistentMirror s.keys (logs_around s.members))) (sym ms_is)
-      (All-append (IsConsistentMirror s.keys (logs_around s.members)) s.mirrors (mirror_opening pattern n ∷ [])
+      (All-append (IsConsistentMirror s.keys (logs_around s.members)) s.mirrors (initial_mirror pattern n ∷ [])
       is.mirrors
-      (all_one (IsConsistentMirror s.keys (logs_around s.members)) (mirror_opening pattern n)
-      (subst (λ (k : ℕ). IsConsistentMirror s.keys (logs_around s.members) (mirror_opening pattern k))
+      (all_one (IsConsistentMirror s.keys (logs_around s.members)) (initial_mirror pattern n)
+      (subst (λ (k : ℕ). IsConsistentMirror s.keys (logs_around s.members) (initial_mirror pattern k))
       (sym (n_is ∙ many s is))
       (mirrors_begin_consistent s.keys (logs_around s.members) pattern)))))
       (subst (All (MirrorTriedFew s.steps)) (sym ms_is)
-      (All-append (MirrorTriedFew s.steps) s.mirrors (mirror_opening pattern n ∷ []) is.mirrors_tried
-      (all_one (MirrorTriedFew s.steps) (mirror_opening pattern n) (λ t. omega arith))))
+      (All-append (MirrorTriedFew s.steps) s.mirrors (initial_mirror pattern n ∷ []) is.mirrors_tried
+      (all_one (MirrorTriedFew s.steps) (initial_mirror pattern n) (λ t. omega arith))))
       (let len : length ms ≡ length s.mirrors + 1 =
-      ap length ms_is ∙ length-append s.mirrors (mirror_opening pattern n ∷ []) in
+      ap length ms_is ∙ length-append s.mirrors (initial_mirror pattern n ∷ []) in
       omega (arith, len, few))
 
   module _ (i : ℕ) (there : i < length s.mirrors) (old : MirrorState) (old_is : old ≡ get_or s.mirrors i old) where
@@ -93,9 +93,9 @@ module _ (s : GroupState) (is : IsConsistentState s) where
         let most = is.mirrors_few in omega (arith, len, most))
 
     -- It has a number for each member.
-    pub as_many_reported : (k : ℕ) → 1 ≤ k → k ≤ length s.sent → (reported : List ℕ)
-        → reported ≡ (get_or s.sent (k - 1) no_packet).vector → length reported ≡ length old.known
-    as_many_reported k one last reported same =
+    pub as_many_received : (k : ℕ) → 1 ≤ k → k ≤ length s.sent → (received : List ℕ)
+        → received ≡ (get_or s.sent (k - 1) no_packet).vector → length received ≡ length old.known
+    as_many_received k one last received same =
         ap length same ∙ (sync s is k one last).vector.width ∙ sym mirror_consistently.vector.width
 
     -- The mirror has fetched, which is a step.
@@ -104,7 +104,7 @@ module _ (s : GroupState) (is : IsConsistentState s) where
         → IsConsistentState (record s { mirrors = ms; steps = s.steps + 1 })
     fetched_mirror few passes tries loss most ms ms_is =
         let begun = counted_state s is few in
-        let way : Part → ℕ → Bool = attempt_comes passes (16 + i) (Some loss) in
+        let way : Part → ℕ → Bool = attempt_passes passes (16 + i) (Some loss) in
         let new : MirrorState = mirror_fetches passes s.members i tries loss old in
         record {
           are = begun.are;
@@ -125,7 +125,7 @@ module _ (s : GroupState) (is : IsConsistentState s) where
               subst (All (MirrorTriedFew (s.steps + 1))) (sym ms_is)
               (All-set (MirrorTriedFew (s.steps + 1)) s.mirrors i new (λ t.
               let a : tries_of new.attempts t ≤ tries_of old.attempts t + 16 =
-              tried_once way s.members tries (mirror_holdings old) most (is_fetched_kept old.pattern) None old.attempts
+              tried_once way s.members tries (mirror_holdings old) most (is_fetch_for old.pattern) None old.attempts
               t in
               let b : tries_of old.attempts t ≤ s.steps * 16 = tried t in
               omega (arith, a, b)) begun.mirrors_tried);

@@ -6,12 +6,12 @@ use Rattle.svs_vector.specs.Vectors.{join_all}
 use Rattle.repo_plan.specs.declared.part.Part.{Part}
 use Rattle.group_model.specs.Member.{tries_of}
 use Rattle.group_model.specs.World.{World}
-use Rattle.group_model.specs.Laws.{NothingHidden}
+use Rattle.group_model.specs.Laws.{NothingDeleted}
 use Rattle.repo_member.specs.MemberState.{MemberState}
 use Rattle.repo_mirror.specs.MirrorState.{MirrorState}
 use Rattle.repo_mirror.specs.ConsistentMirrors.{IsConsistentMirror}
 use Rattle.bench_world.specs.declared.touched.Touched.{Touched}
-use Rattle.bench_world.specs.Conditions.{CanGatherForAll}
+use Rattle.bench_world.specs.Conditions.{CanFetchAllForMirrors}
 use Rattle.bench_world.specs.MirrorSteps.{no_mirror, mirror_at}
 use Rattle.bench_world.specs.MirrorSettles.{HasSettled, HaveSettled, ListsItsJoin}
 use Rattle.bench_world.specs.MirrorSettles.{IsPartlySettledMirror, ArePartlySettledMirrors}
@@ -46,9 +46,9 @@ module _ (s : GroupState) (is : IsConsistentState s) where
   module _ (lent : List MemberState) (lent_is : lent ≡ s.members) where
     pub can_gather : (touched : Touched) → MirrorsLackNone touched (in_groups s.members) s.mirrors → (n : ℕ)
         → (1 ≤ n) × (n ≤ 16) → (known : List ℕ) → known ≡ join_all (knowns lent)
-        → CanGatherForAll s.keys n lent touched known s.mirrors
+        → CanFetchAllForMirrors s.keys n lent touched known s.mirrors
     can_gather touched lacks n workers known known_is =
-        subst (λ (ms : List MemberState). CanGatherForAll s.keys n ms touched known s.mirrors) (sym lent_is)
+        subst (λ (ms : List MemberState). CanFetchAllForMirrors s.keys n ms touched known s.mirrors) (sym lent_is)
         (record {
           workers = workers;
           few = is.mirrors_few;
@@ -105,7 +105,7 @@ module _ (s : GroupState) (is : IsConsistentState s) where
 
       pub all_list : length ms ≡ length s.mirrors
           → ((i : ℕ) → i < length ms → IsConsistentMirror s.keys (logs_around lent) (mirror_at ms i))
-          → HaveSettled (only_members lent) s.mirrors ms → NothingHidden (world_of s) → (i : ℕ) → i < length ms
+          → HaveSettled (only_members lent) s.mirrors ms → NothingDeleted (world_of s) → (i : ℕ) → i < length ms
           → ListsItsJoin (world_of s) (mirror_at ms i)
       all_list len consistent settled clear i l =
           let inside : i < length s.mirrors = omega (arith, l, len) in

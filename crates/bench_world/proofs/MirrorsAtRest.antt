@@ -16,16 +16,16 @@ use Rattle.group_model.specs.World.{World, member, logs, someone_holds}
 use Rattle.group_model.specs.Steps.{settled_vector}
 use Rattle.group_model.specs.Sound.{IsSoundGroup, IsKnown, IsHeldSoundly}
 use Rattle.group_model.proofs.Parents.{parent_within, parent_of_parent}
-use Rattle.group_model.proofs.Settles.{reported_by}
-use Rattle.repo_mirror.specs.Asked.{is_kept}
+use Rattle.group_model.proofs.Settles.{knows_settled}
+use Rattle.repo_mirror.specs.Asked.{is_for}
 use Rattle.repo_mirror.specs.Mirrors.{Mirror, mirror_holds, IsPartAskedFor, IsSoundMirror}
-use Rattle.repo_mirror.specs.MirrorLaws.{HasComeToRest}
+use Rattle.repo_mirror.specs.MirrorLaws.{WantsNothingHeld}
 use Rattle.bench_world.proofs.Lacking.{here_someone, at_holder}
 
 module _ (pattern : Pattern) (w : World) (group : IsSoundGroup w) (m : Mirror)
     (sound : IsSoundMirror pattern (logs w) m)
     (known : (p : ℕ) → get_or (settled_vector w) p 0 ≤ get_or m.known p 0)
-    (rest : HasComeToRest pattern (logs w) w.members m) (t : Part)
+    (rest : WantsNothingHeld pattern (logs w) w.members m) (t : Part)
     (asked : is_publisher pattern.publisher t.publisher ≡ true) where
   -- a member at a place holds the part
   module _ (k : ℕ) (inside : k < length w.members) (held : member_holds (member w k) t ≡ true) where
@@ -35,9 +35,9 @@ module _ (pattern : Pattern) (w : World) (group : IsSoundGroup w) (m : Mirror)
     known_too : IsKnown m.known (pair_of t)
     known_too =
         let far : t.seq ≤ get_or (member w k).known t.publisher 0 = soundly.known.to_known in
-        let reported = reported_by w group k inside k t.publisher inside in
+        let received = knows_settled w group k inside k t.publisher inside in
         let all = known t.publisher in
-        record { from_one = soundly.known.from_one; to_known = omega (arith, far, reported, all) }
+        record { from_one = soundly.known.from_one; to_known = omega (arith, far, received, all) }
 
     -- what could come of its publication is held
     comes : (x : ℕ) → member_holds (member w k) (part_of (pair_of t) x) ≡ true
@@ -55,7 +55,7 @@ module _ (pattern : Pattern) (w : World) (group : IsSoundGroup w) (m : Mirror)
     held_record : mirror_holds m (record_of t) ≡ true
     held_record = comes 0 soundly.with_record (inl refl)
 
-    module _ (accepted : is_kept pattern (logs w) (pair_of t) ≡ true) where
+    module _ (accepted : is_for pattern (logs w) (pair_of t) ≡ true) where
       after : (x : ℕ) → (x == 0) ≡ false → x ≤ count (logs w) (pair_of t)
           → member_holds (member w k) (part_of (pair_of t) x) ≡ true
           → mirror_holds m (part_of (pair_of t) (parent_number (shape_at (logs w) (pair_of t)) x)) ≡ true

@@ -21,7 +21,7 @@ use Rattle.repo_member.specs.Groups.{GroupKeys}
 use Rattle.repo_member.specs.MemberState.{MemberState}
 use Rattle.repo_mirror.specs.Asked.{asked_numbers}
 use Rattle.repo_mirror.specs.Mirrors.{mirror_holds}
-use Rattle.repo_mirror.specs.MirrorLaws.{HasComeToRest}
+use Rattle.repo_mirror.specs.MirrorLaws.{WantsNothingHeld}
 use Rattle.repo_mirror.specs.MirrorState.{MirrorState, fetch_plan}
 use Rattle.repo_mirror.specs.ConsistentMirrors.{mirror_in_group, IsConsistentMirror}
 use Rattle.repo_mirror.specs.Passing.{passed_over}
@@ -72,8 +72,8 @@ keeps_lacking n held old new keeps none t h off asked =
     ]
 
 -- So it does where it learns.
-learns_keeps : (reported : List ℕ) (old : MirrorState) → KeepsAll old (mirror_learns reported old)
-learns_keeps reported old = record { pattern = refl; kept = λ t h. h; passed = λ pair h. h }
+learns_keeps : (received : List ℕ) (old : MirrorState) → KeepsAll old (mirror_learns received old)
+learns_keeps received old = record { pattern = refl; kept = λ t h. h; passed = λ pair h. h }
 
 -- One of the mirrors changes so.
 set_mirror_lacks : (n : Touched) (members : List Member) (ms : List MirrorState) (i : ℕ) → i < length ms
@@ -91,12 +91,12 @@ set_mirror_lacks n members ms i inside b keeps all j l = elim (cases_eq j i) [
 ]
 
 pub learnt_mirror_lacks : (n : Touched) (members : List Member) (ms : List MirrorState) (i : ℕ) → i < length ms
-    → (reported : List ℕ) (old b : MirrorState) → old ≡ mirror_at ms i → b ≡ mirror_learns reported old
+    → (received : List ℕ) (old b : MirrorState) → old ≡ mirror_at ms i → b ≡ mirror_learns received old
     → MirrorsLackNone n members ms → MirrorsLackNone n members (set ms i b)
-learnt_mirror_lacks n members ms i inside reported old b old_is b_is =
+learnt_mirror_lacks n members ms i inside received old b old_is b_is =
     set_mirror_lacks n members ms i inside b
-    (subst (KeepsAll (mirror_at ms i)) (sym (b_is ∙ ap (mirror_learns reported) old_is))
-    (learns_keeps reported (mirror_at ms i)))
+    (subst (KeepsAll (mirror_at ms i)) (sym (b_is ∙ ap (mirror_learns received) old_is))
+    (learns_keeps received (mirror_at ms i)))
 
 pub fetched_mirror_lacks : (n : Touched) (members : List Member) (ms : List MirrorState) (i : ℕ) → i < length ms
     → (passes : ℕ → ℕ → ℕ → ℕ → ℕ → ℕ → Bool) (w : World) (lent : List MemberState) (tries loss : ℕ)
@@ -120,13 +120,13 @@ fetched_mirror_lacks n members ms i inside passes w lent tries loss fetched new 
 -- ---- what it gathers
 
 -- Of what it knows, a mirror that has learnt has each part that members lend and that wasn't touched, or hides it.
-pub learnt_has : (n : Touched) (lenders : List MemberState) (reported : List ℕ) (old m : MirrorState)
-    → m ≡ mirror_learns reported old → MirrorLacksNone n (someone_holds (in_groups lenders)) old → (t : Part)
+pub learnt_has : (n : Touched) (lenders : List MemberState) (received : List ℕ) (old m : MirrorState)
+    → m ≡ mirror_learns received old → MirrorLacksNone n (someone_holds (in_groups lenders)) old → (t : Part)
     → lends lenders t ≡ true → touches n (pair_of t) ≡ false → knows (fetch_plan m) (pair_of t) ≡ true
     → (contains part_cmp (mirror_held m) t ≡ true) ⊎ (contains pair_cmp m.passed (pair_of t) ≡ true)
-learnt_has n lenders reported old m m_is none t lent off known =
+learnt_has n lenders received old m m_is none t lent off known =
     elim (keeps_lacking n (someone_holds (in_groups lenders)) old m
-    (subst (KeepsAll old) (sym m_is) (learns_keeps reported old)) none t (sym (lends_held lenders t) ∙ lent) off
+    (subst (KeepsAll old) (sym m_is) (learns_keeps received old)) none t (sym (lends_held lenders t) ∙ lent) off
     asked) [
       | inl holds ↦ inl (held_is m t ∙ holds)
       | inr passed ↦ inr passed
@@ -160,7 +160,7 @@ pub settled_mirrors_lack : (n : Touched) (w : World) → IsSoundGroup w → (g :
     → HaveSettled w old new → MirrorsLackNone n w.members new
 settled_mirrors_lack n w group g old new len consistent settled i l t held off asked =
     has_or_passed (mirror_at new i).pattern w group (mirror_in_group (mirror_at new i)) (consistent i l).sound known
-    (subst (λ (p : Pattern). HasComeToRest p (logs w) w.members (mirror_in_group (mirror_at new i)))
+    (subst (λ (p : Pattern). WantsNothingHeld p (logs w) w.members (mirror_in_group (mirror_at new i)))
     (sym one.pattern) one.rest)
     t asked held where
       one : HasSettled w (mirror_at old i) (mirror_at new i)

@@ -29,7 +29,7 @@ use Rattle.group_model.specs.Sound.{IsPublished, IsSoundGroup}
 use Rattle.group_model.specs.Wanted.{IsWantedPart, HoldsRecords}
 use Rattle.group_model.specs.World.{Environment, World, member, logs, sent_at, catalogue_at}
 use Rattle.group_model.specs.Steps.{catalogue_totals, all_totals, claim_at, to_claim, timer_at, mode_at, after_deliver}
-use Rattle.group_model.specs.Steps.{came_from, passes_checks, next_seq_at, next_sync, block_at, hear_outcome}
+use Rattle.group_model.specs.Steps.{response_from, passes_checks, next_seq_at, next_sync, block_at, hear_outcome}
 use Rattle.group_model.proofs.Lists.{from_filter}
 use Rattle.group_model.proofs.Members.{known_published}
 use Rattle.group_model.proofs.Parts.{publisher_within, in_published}
@@ -38,11 +38,11 @@ use Rattle.repo_member.specs.Groups.{GroupKeys}
 use Rattle.repo_member.specs.Verdicts.{group_verdict}
 use Rattle.repo_member.specs.InGroup.{published_packet}
 use Rattle.repo_member.specs.ConsistentMembers.{published_want, published_packets}
-use Rattle.bench_world.specs.EventValues.{EventValue, part_at, event_report, delivered_reported, fired_reported}
-use Rattle.bench_world.specs.EventValues.{claim_reported}
-use Rattle.bench_world.specs.EventValues.{lost_reported, answer_reported, dump_reported, mode_reported, heard_as}
-use Rattle.bench_world.specs.EventValues.{hear_reported, ask_reported}
-use Rattle.bench_world.specs.EventValues.{fed_reported, feed_reported, block_reported}
+use Rattle.bench_world.specs.EventValues.{EventValue, part_at, event_report, delivered_report, fired_report}
+use Rattle.bench_world.specs.EventValues.{claim_report}
+use Rattle.bench_world.specs.EventValues.{lost_report, answer_report, dump_report, mode_report, heard_as}
+use Rattle.bench_world.specs.EventValues.{hear_report, ask_report}
+use Rattle.bench_world.specs.EventValues.{fed_report, feed_report, block_report}
 use Rattle.bench_world.specs.Readings.{read_as}
 use Rattle.bench_world.specs.Steps.{IsReady, SyncNamesMember, NamesAll}
 use Rattle.bench_world.proofs.NextParts.{all_from_in}
@@ -52,51 +52,51 @@ module _ (n : ℕ) where
   -- ---- of a member that is there
 
   module _ (m : ℕ) (there : m < n) where
-    of_mode : (mode : Mode) → NamesAll n (mode_reported m mode)
+    of_mode : (mode : Mode) → NamesAll n (mode_report m mode)
     of_mode Steady = there
     of_mode Suppressed = there
 
-    of_delivery : (k : ℕ) (mode : Mode) → NamesAll n (delivered_reported k m mode)
+    of_delivery : (k : ℕ) (mode : Mode) → NamesAll n (delivered_report k m mode)
     of_delivery k Steady = there
     of_delivery k Suppressed = there
 
-    of_fire : (k : ℕ) (x : Fired) → NamesAll n (fired_reported m k x)
+    of_fire : (k : ℕ) (x : Fired) → NamesAll n (fired_report m k x)
     of_fire k fired.Early = there
     of_fire k fired.Quiet = there
     of_fire k fired.Send = there
 
     of_claim : (f : ℕ) (o : Option Part) → ((t : Part) → o ≡ Some t → t.publisher < n)
-        → NamesAll n (claim_reported m f o)
+        → NamesAll n (claim_report m f o)
     of_claim f None publisher = there
     of_claim f (Some t) publisher = (there, publisher t refl)
 
-    of_loss : (f : ℕ) (o : Option Part) → ((t : Part) → o ≡ Some t → t.publisher < n) → NamesAll n (lost_reported m f o)
+    of_loss : (f : ℕ) (o : Option Part) → ((t : Part) → o ≡ Some t → t.publisher < n) → NamesAll n (lost_report m f o)
     of_loss f None publisher = tt
     of_loss f (Some t) publisher = (there, publisher t refl)
 
-    of_answer : (f : ℕ) (b : Bool) → NamesAll n (answer_reported m f b)
+    of_answer : (f : ℕ) (b : Bool) → NamesAll n (answer_report m f b)
     of_answer f true = there
     of_answer f false = there
 
-    of_dump : (o : Option (List ℕ)) → NamesAll n (dump_reported m o)
+    of_dump : (o : Option (List ℕ)) → NamesAll n (dump_report m o)
     of_dump None = there
     of_dump (Some octets) = there
 
-    of_ask : (r : Result (Option (List ℕ)) PacketFault) → NamesAll n (ask_reported m r)
+    of_ask : (r : Result (Option (List ℕ)) PacketFault) → NamesAll n (ask_report m r)
     of_ask (Err fault) = there
     of_ask (Ok None) = there
     of_ask (Ok (Some octets)) = there
 
-    of_fed : (f : ℕ) (r : Result Data PartRefusal) → NamesAll n (fed_reported m f r)
+    of_fed : (f : ℕ) (r : Result Data PartRefusal) → NamesAll n (fed_report m f r)
     of_fed f (Ok d) = there
     of_fed f (Err refusal) = there
 
     of_feed : (g : GroupKeys) (w : World) (f : ℕ) (octets : List ℕ) (o : Option Part)
-        → NamesAll n (feed_reported g w m f octets o)
+        → NamesAll n (feed_report g w m f octets o)
     of_feed g w f octets None = tt
     of_feed g w f octets (Some t) = of_fed f (ring_verdict (published_want g (logs w) t) g.members.ring octets)
 
-    of_block : (seq sync : ℕ) (b : BlockState) → NamesAll n (block_reported m seq sync b)
+    of_block : (seq sync : ℕ) (b : BlockState) → NamesAll n (block_report m seq sync b)
     of_block seq sync Unknown = there
     of_block seq sync Already = there
     of_block seq sync (Waiting p) = there
@@ -107,13 +107,13 @@ module _ (n : ℕ) where
     of_heard (Err ahead) = (there, tt)
 
     of_hear : (r : Result (ℕ × List ℕ) SyncRefusal) → IfErr r (SyncNamesMember n) → (heard : HearOutcome (read_as r))
-        → NamesAll n (hear_reported m r heard)
+        → NamesAll n (hear_report m r heard)
     of_hear (Err refusal) named heard = (there, named)
-    of_hear (Ok reported) named heard = of_heard heard
+    of_hear (Ok received) named heard = of_heard heard
 
   -- ---- of a sound group
 
-  module _ (g : GroupKeys) (out : Environment) (w : World) (roster : length g.members.names ≡ n)
+  module _ (g : GroupKeys) (env : Environment) (w : World) (roster : length g.members.names ≡ n)
       (many : length w.members ≡ n) (sound : IsSoundGroup w) where
     of_sums : (f : CatalogueTotals → ℕ) → length (map f (all_totals w)) ≡ n
     of_sums f =
@@ -157,10 +157,10 @@ module _ (n : ℕ) where
         subst (λ (k : ℕ). IfErr (group_verdict g octets) (SyncNamesMember k)) roster
         (refused_in_roster g.members.names g.name g.members.ring octets)
 
-    pub names_all : (e : EventValue) → IsReady n e → NamesAll n (event_report g out w e)
+    pub names_all : (e : EventValue) → IsReady n e → NamesAll n (event_report g env w e)
     names_all (EventValue.Publish m name size content) r = r.0
     names_all (EventValue.Withdraw m s) r = r.0
-    names_all (EventValue.Deliver k m) r = of_delivery m r k (mode_at (after_deliver out w m (sent_at w k).vector) m)
+    names_all (EventValue.Deliver k m) r = of_delivery m r k (mode_at (after_deliver env w m (sent_at w k).vector) m)
     names_all (EventValue.Sync k) r = tt
     names_all (EventValue.Advance ms) r = tt
     names_all (EventValue.Fire m) r = of_fire m r (next_sync w) (timer_at w m)
@@ -171,7 +171,7 @@ module _ (n : ℕ) where
     names_all (EventValue.Catalogue m) r = (r, of_entries m)
     names_all (EventValue.Claim m f) r = of_claim m r.0 f (to_claim w m) (of_first m r.0)
     names_all (EventValue.Lose m f) r = of_loss m r.0 f (claim_at w m f) (of_claimed m f r.0)
-    names_all (EventValue.Answer m f q) r = of_answer m r.0 f (passes_checks (came_from out w q (claim_at w m f)))
+    names_all (EventValue.Answer m f q) r = of_answer m r.0 f (passes_checks (response_from env w q (claim_at w m f)))
     names_all (EventValue.Fetch m workers tries loss) r = r.0
     names_all (EventValue.Settle workers) r = tt
     names_all (EventValue.Dump m p s x) r =
@@ -179,7 +179,7 @@ module _ (n : ℕ) where
         None)
     names_all (EventValue.Hear m octets) r =
         of_hear m r (group_verdict g octets) (of_refusal octets)
-        (hear_outcome out w m (read_as (group_verdict g octets)))
+        (hear_outcome env w m (read_as (group_verdict g octets)))
     names_all (EventValue.Ask m octets) r = of_ask m r (served octets (published_packets g (logs w) (member w m).held))
     names_all (EventValue.Feed m f octets) r = of_feed m r.0 g w f octets (claim_at w m f)
     names_all (EventValue.Order m octets) r = r

@@ -7,11 +7,11 @@ use Rattle.repo_plan.specs.Parts.{Pair, pair_of}
 use Rattle.repo_object.specs.Objects.{Post}
 use Rattle.repo_process.specs.Processes.{Process, BlockState}
 use Rattle.repo_process.specs.Processes.BlockState.{Whole}
-use Rattle.group_model.specs.Events.{Came}
+use Rattle.group_model.specs.Events.{Response}
 use Rattle.group_model.specs.Member.{Member}
 use Rattle.group_model.specs.World.{World, Tally, Environment, someone_holds}
 use Rattle.group_model.specs.Sound.{IsSoundGroup}
-use Rattle.group_model.specs.Steps.{after_came, after_publish, after_block, next_seq_at, settled_member}
+use Rattle.group_model.specs.Steps.{after_response, after_publish, after_block, next_seq_at, settled_member}
 use Rattle.repo_member.specs.MemberState.{MemberState}
 use Rattle.repo_member.specs.InGroup.{in_group}
 use Rattle.repo_mirror.specs.MirrorState.{MirrorState}
@@ -96,14 +96,14 @@ module _ (s : GroupState) (m : ℕ) (there : m < length s.members) where
       (new : List MemberState) where
     -- What came for a claim is noted.
     pub came_lacks : (later : Unsettled) (claim : Option Part) → NotesBoth u (option_map pair_of claim) later
-        → (f : ℕ) (out : Environment) (tally : Tally) (o : Option Part) (k : Came) → claim ≡ o
-        → in_groups new ≡ (after_came out (record (world_of s) { tally = tally }) m f o k).members
+        → (f : ℕ) (env : Environment) (tally : Tally) (o : Option Part) (k : Response) → claim ≡ o
+        → in_groups new ≡ (after_response env (record (world_of s) { tally = tally }) m f o k).members
         → NobodyLacks later (in_groups new) s.mirrors
-    came_lacks later claim notes f out tally o k same is =
+    came_lacks later claim notes f env tally o k same is =
         nobody_lacks u later (option_map pair_of claim) notes (in_groups s.members) (in_groups new)
         (λ n l noted.
         subst (Spreads l (in_groups s.members)) (sym is)
-        (came_spreads l (record (world_of s) { tally = tally }) m inside_too out f o k n
+        (came_spreads l (record (world_of s) { tally = tally }) m inside_too env f o k n
         (subst (λ (x : Option Part). NotesAny n (option_map pair_of x) l) same noted)))
         s.mirrors lacks
 
@@ -116,27 +116,27 @@ module _ (s : GroupState) (m : ℕ) (there : m < length s.members) where
 
     -- What is published is noted.
     pub published_lacks : (later : Unsettled) (seq : ℕ) → NotesBoth u (Some (m, seq)) later
-        → (out : Environment) (post : Post) → seq ≡ next_seq_at (world_of s) m
-        → in_groups new ≡ (after_publish out (world_of s) m post).members
+        → (env : Environment) (post : Post) → seq ≡ next_seq_at (world_of s) m
+        → in_groups new ≡ (after_publish env (world_of s) m post).members
         → NobodyLacks later (in_groups new) s.mirrors
-    published_lacks later seq notes out post seq_is is =
+    published_lacks later seq notes env post seq_is is =
         nobody_lacks u later (Some (m, seq)) notes (in_groups s.members) (in_groups new)
         (λ n l noted.
         subst (Spreads l (in_groups s.members)) (sym is)
-        (publish_spreads l (world_of s) m inside_too out post
+        (publish_spreads l (world_of s) m inside_too env post
         (ap (λ (k : ℕ). touches l (m, k)) (sym seq_is) ∙ noted.there)))
         s.mirrors lacks
 
     -- What a block completes is noted.
-    pub blocked_lacks : (later : Unsettled) (o : Option Pair) → NotesBoth u o later → (out : Environment)
+    pub blocked_lacks : (later : Unsettled) (o : Option Pair) → NotesBoth u o later → (env : Environment)
         (process : ℕ) (x : BlockState)
         → ((n l : Touched) → NotesAny n o l → (p : Process) → x ≡ Whole p
         → touches l (m, next_seq_at (world_of s) m) ≡ true)
-        → in_groups new ≡ (after_block out (world_of s) m process x).members
+        → in_groups new ≡ (after_block env (world_of s) m process x).members
         → NobodyLacks later (in_groups new) s.mirrors
-    blocked_lacks later o notes out process x noted is =
+    blocked_lacks later o notes env process x noted is =
         nobody_lacks u later o notes (in_groups s.members) (in_groups new)
         (λ n l now.
         subst (Spreads l (in_groups s.members)) (sym is)
-        (block_spreads l (world_of s) m inside_too out process x (noted n l now)))
+        (block_spreads l (world_of s) m inside_too env process x (noted n l now)))
         s.mirrors lacks

@@ -48,10 +48,10 @@ abbrev event_of : ℕ → Post → Event
 event_of m (Offers object) = Event.Publish m object
 event_of m (Withdraws seq) = Event.Withdraw m seq
 
-event_is : (out : Environment) (w : World) (m : ℕ) (post : Post)
-    → after_event out w (event_of m post) ≡ after_publish out w m post
-event_is out w m (Offers object) = refl
-event_is out w m (Withdraws seq) = refl
+event_is : (env : Environment) (w : World) (m : ℕ) (post : Post)
+    → after_event env w (event_of m post) ≡ after_publish env w m post
+event_is env w m (Offers object) = refl
+event_is env w m (Withdraws seq) = refl
 
 in_range : (m n : ℕ) (post : Post) → IsPost n post → IsInRange (event_of m post)
 in_range m n (Offers object) is = is.few
@@ -178,9 +178,9 @@ module _ (s : GroupState) (is : IsConsistentState s) (m : ℕ) (there : m < leng
         let known : set vector m seq ≡ b.known =
         (λ i. set (vector_is i) (sym (number_is s is m there old old_is) i) (seq_is_ i))
         ∙ sym (ap (λ (a : MemberState). a.known) b_is) in
-        let reported : sync ≡ sync_of s.keys m b.known =
+        let received : sync ≡ sync_of s.keys m b.known =
         sync_is ∙ ap (λ (k : ℕ). sync_of s.keys k b.known) (number_is s is m there old old_is) in
-        e ∙ (λ i. reserved_is i ++ sent_packet m (known i) (reported i) ∷ [])
+        e ∙ (λ i. reserved_is i ++ sent_packet m (known i) (received i) ∷ [])
 
     -- The member is what the group makes of it.
     published_member : in_group b

@@ -8,7 +8,7 @@ use Rattle.repo_member.specs.Groups.{GroupKeys}
 use Rattle.repo_member.specs.MemberState.{MemberState}
 use Rattle.bench_world.specs.declared.sync_exchange.MemberSync.{MemberSync}
 use Rattle.bench_world.specs.Worlds.{nobody, state_at, tells}
-use Rattle.bench_world.specs.Settling.{reported_of}
+use Rattle.bench_world.specs.Settling.{sent_sync}
 
 module _ (mid : List MemberState) (j : ℕ) (inside : j < length mid) (b : MemberState) where
   pub set_here : state_at (set mid j b) j ≡ b
@@ -37,14 +37,14 @@ module _ (mid : List MemberState) (j : ℕ) (inside : j < length mid) (b : Membe
   ]
 
 -- One more has reported.
-pub reported_pushed : (g : GroupKeys) (reported more : List MemberSync) (one : MemberSync) (members : List MemberState)
+pub received_pushed : (g : GroupKeys) (syncs more : List MemberSync) (one : MemberSync) (members : List MemberState)
     (i : ℕ) (item : MemberState)
-    → i < length members → item ≡ get_or members i item → more ≡ reported ++ one ∷ [] → reported_of one ≡ tells g item
-    → map reported_of reported ≡ map (tells g) (take i members) → map reported_of more
+    → i < length members → item ≡ get_or members i item → more ≡ syncs ++ one ∷ [] → sent_sync one ≡ tells g item
+    → map sent_sync syncs ≡ map (tells g) (take i members) → map sent_sync more
     ≡ map (tells g) (take (i + 1) members)
-reported_pushed g reported more one members i item l is e same before =
-    ap (map reported_of) e ∙ map-append reported_of reported (one ∷ [])
-    ∙ ap (λ (ps : List SentPacket). ps ++ reported_of one ∷ []) before
+received_pushed g syncs more one members i item l is e same before =
+    ap (map sent_sync) e ∙ map-append sent_sync syncs (one ∷ [])
+    ∙ ap (λ (ps : List SentPacket). ps ++ sent_sync one ∷ []) before
     ∙ ap (λ (p : SentPacket). map (tells g) (take i members) ++ p ∷ []) same
     ∙ sym (map-append (tells g) (take i members) (item ∷ []))
     ∙ ap (map (tells g)) (ap (λ (a : MemberState). take i members ++ a ∷ []) is ∙ sym (take_more members i item l))

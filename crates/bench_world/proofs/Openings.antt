@@ -9,9 +9,9 @@ use Rattle.repo_object.specs.Objects.{Post}
 use Rattle.bench_net.specs.SentList.{SentPacket}
 use Rattle.group_model.specs.Publications.{Logs}
 use Rattle.group_model.specs.Member.{Member}
-use Rattle.group_model.specs.World.{Tally, logs_of, opening_world}
+use Rattle.group_model.specs.World.{Tally, logs_of, initial_world}
 use Rattle.group_model.specs.Limits.{IsWithinSteps}
-use Rattle.group_model.proofs.PublicLaws.{within_opening}
+use Rattle.group_model.proofs.PublicLaws.{within_initial}
 use Rattle.repo_holdings.proofs.ContentLemmas.{numbers_last}
 use Rattle.repo_member.specs.Groups.{GroupKeys, IsGroup}
 use Rattle.repo_member.specs.MemberState.{MemberState}
@@ -89,10 +89,10 @@ module _ (g : GroupKeys) (is : IsGroup g) (draw : ℕ → ℕ → ℕ) where
         steps = 0;
         mirrors = [];
       })
-      ≡ opening_world (drawing draw) (length g.members.names)
+      ≡ initial_world (drawing draw) (length g.members.names)
   opening_is ms sent ms_are sent_is =
       let at : (j : ℕ) → 0 + periodic (draw j 0) ≡ periodic (draw j 0) = λ j. omega arith in
-      let members : in_groups ms ≡ (opening_world (drawing draw) (length g.members.names)).members =
+      let members : in_groups ms ≡ (initial_world (drawing draw) (length g.members.names)).members =
       ap in_groups ms_are ∙ in_groups_begun (numbers_from 0 (length g.members.names))
       ∙ (λ i. map (λ j. record (in_group (begun_one (length g.members.names) draw j)) {
         machine = record { members = length g.members.names; heard = None; deadline = at j i; draws = 1 };
@@ -133,14 +133,14 @@ module _ (g : GroupKeys) (is : IsGroup g) (draw : ℕ → ℕ → ℕ) where
     sent = λ k d l. absurd (omega (arith, l));
     within =
         subst (IsWithinSteps 0) (sym (opening_is (begun_all (length g.members.names) draw) [] refl refl))
-        (within_opening (drawing draw) (length g.members.names));
+        (within_initial (drawing draw) (length g.members.names));
     steps = omega arith;
     mirrors = λ k d l. absurd (omega (arith, l));
     mirrors_tried = λ k d l. absurd (omega (arith, l));
     mirrors_few = omega arith;
   }
 
-  pub opening_state : (ms : List MemberState) (sent : List SentPacket) → ms ≡ begun_all (length g.members.names) draw
+  pub initial_state : (ms : List MemberState) (sent : List SentPacket) → ms ≡ begun_all (length g.members.names) draw
       → sent ≡ [] → IsConsistentState (record {
         keys = g;
         members = ms;
@@ -151,7 +151,7 @@ module _ (g : GroupKeys) (is : IsGroup g) (draw : ℕ → ℕ → ℕ) where
         steps = 0;
         mirrors = [];
       })
-  opening_state ms sent ms_are sent_is =
+  initial_state ms sent ms_are sent_is =
       subst (λ (as_ : List MemberState). IsConsistentState (record {
         keys = g;
         members = as_;

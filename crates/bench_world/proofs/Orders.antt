@@ -17,7 +17,7 @@ use Rattle.repo_process.specs.Insertions.{next_number}
 use Rattle.group_model.specs.Changes as group
 use Rattle.group_model.specs.Events.{Event}
 use Rattle.group_model.specs.Limits.{IsInRange, IsShortInsertion}
-use Rattle.group_model.specs.Member.{Member, catalogued_under, member_hides_all}
+use Rattle.group_model.specs.Member.{Member, catalogued_under, deletes_all}
 use Rattle.group_model.specs.Replies.{Reply}
 use Rattle.group_model.specs.World.{Issued, World, no_member, member, with_member, logs}
 use Rattle.group_model.specs.Steps.{can_start, after_command, after_order, after_issue, command_answer, order_answer}
@@ -57,7 +57,7 @@ module _ (w : World) (j : ℕ) (there : j < length w.members) where
       go true = one (group.member_starts name first last (member w j))
       go false = still
     by (Check process) = still
-    by (Delete name) = one (member_hides_all (catalogued_under (logs w) (member w j) name) (member w j))
+    by (Delete name) = one (deletes_all (catalogued_under (logs w) (member w j) name) (member w j))
 
 -- ---- a command is carried out
 

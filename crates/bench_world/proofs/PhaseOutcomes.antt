@@ -19,7 +19,7 @@ use Rattle.repo_object.specs.declared.part_refusal.PartRefusal.{PartRefusal}
 use Rattle.repo_object.specs.Publication.{Listed}
 use Rattle.repo_object.specs.Wants.{WantedPart, want_record, want_index, want_segment}
 use Rattle.repo_object.specs.Verdict.{CheckedPart, ring_verdict, checked_part}
-use Rattle.fetch_work.specs.Attempts.{brings, checked_reply, if_passed, CanBeTried}
+use Rattle.fetch_work.specs.Attempts.{packet_at, checked_reply, if_passed, CanBeTried}
 use Rattle.fetch_work.specs.Phases.{AreFirst}
 use Rattle.fetch_work.specs.Teams.{IsFirst}
 use Rattle.group_model.specs.Publications.{Logs}
@@ -30,13 +30,13 @@ use Rattle.repo_holdings.specs.HoldingsState.{HoldingsState, held_plan}
 use Rattle.repo_holdings.specs.Taking.{Fetched}
 use Rattle.repo_holdings.specs.Wanting.{nothing_listed, want_at, job_at}
 use Rattle.repo_member.specs.MemberState.{MemberState}
-use Rattle.repo_member.specs.InGroup.{AreLogs, published_packet, asked_for, that_came}
+use Rattle.repo_member.specs.InGroup.{AreLogs, published_packet, asked_for, parts_fetched}
 use Rattle.repo_member.specs.Outcomes.{outcome_of, octets_in, IsCheckedFor, WereTried}
 use Rattle.repo_member.specs.ConsistentHolders.{IsConsistentHolder}
 use Rattle.repo_member.proofs.PublicLaws.{packets_pass_for_holders}
 use Rattle.bench_world.specs.Worlds.{AreConsistentMembers}
 use Rattle.bench_world.specs.Others.{place_among_others}
-use Rattle.bench_world.specs.Lending.{or_else, lent, lends, lent_at, lent_first, attempt_comes, if_comes, lent_answer}
+use Rattle.bench_world.specs.Lending.{or_else, lent, lends, lent_at, lent_first, attempt_passes, if_comes, lent_answer}
 use Rattle.bench_world.specs.Gathering.{lent_one, lent_all}
 use Rattle.bench_world.specs.Fetching.{fetched_one, fetched_all}
 use Rattle.bench_world.proofs.Attempts.{none_comes, some_comes}
@@ -114,7 +114,8 @@ module _ (g : GroupKeys) (want : WantedPart) where
 -- ---- what comes can be taken
 
 module _ (answer : WantedPart → ℕ → Option (List ℕ)) (g : GroupKeys) (tries : ℕ) where
-  one_tried : (job : Job) (part : Option CheckedPart) (n : ℕ) → IsFirst (brings answer g.members.ring job) tries part n
+  one_tried : (job : Job) (part : Option CheckedPart) (n : ℕ)
+      → IsFirst (packet_at answer g.members.ring job) tries part n
       → (IfSome part (IsCheckedFor g job.want)) × (n ≤ tries)
   one_tried job (Some x) n f =
       (checked_for g job.want (answer job.want (job.base + f.0 + 1)) x f.3, omega (arith, f.1, f.2))
@@ -160,7 +161,7 @@ module _ (answer : WantedPart → ℕ → Option (List ℕ)) (g : GroupKeys) (tr
 -- ---- how much came
 
 pub counted : (jobs : List Job) (parts : List (Option CheckedPart)) (ns : List ℕ) → length parts ≡ length jobs
-    → length ns ≡ length jobs → length (filter is_some parts) ≡ length (that_came (outcome_of jobs parts ns))
+    → length ns ≡ length jobs → length (filter is_some parts) ≡ length (parts_fetched (outcome_of jobs parts ns))
 counted [] [] ns e f = refl
 counted [] (p ∷ ps) ns e f = absurd (omega (arith, e))
 counted (job ∷ jobs) [] ns e f = absurd (omega (arith, e))
@@ -173,14 +174,14 @@ pub octets_sum : (f : Part → ℕ) (jobs : List Job) (parts : List (Option Chec
     → length parts ≡ length jobs → length ns ≡ length jobs
     → ((x : Fetched) (octets : List ℕ) → In x (outcome_of jobs parts ns) → x.packet ≡ Some octets
     → f x.part ≡ length octets)
-    → sum_by octets_in parts ≡ sum_by f (that_came (outcome_of jobs parts ns))
+    → sum_by octets_in parts ≡ sum_by f (parts_fetched (outcome_of jobs parts ns))
 octets_sum f [] [] ns e h each = refl
 octets_sum f [] (p ∷ ps) ns e h each = absurd (omega (arith, e))
 octets_sum f (job ∷ jobs) [] ns e h each = absurd (omega (arith, e))
 octets_sum f (job ∷ jobs) (p ∷ ps) [] e h each = absurd (omega (arith, h))
 octets_sum f (job ∷ jobs) (None ∷ ps) (n ∷ ns) e h each =
     let head : sum_by octets_in (None ∷ ps) ≡ octets_in None + sum_by octets_in ps = sum_by-cons octets_in None ps in
-    let rest : sum_by octets_in ps ≡ sum_by f (that_came (outcome_of jobs ps ns)) =
+    let rest : sum_by octets_in ps ≡ sum_by f (parts_fetched (outcome_of jobs ps ns)) =
     octets_sum f jobs ps ns (omega (arith, e)) (omega (arith, h)) (λ x octets i q. each x octets (inr i) q) in
     omega (arith, head, rest)
 octets_sum f (job ∷ jobs) (Some c ∷ ps) (n ∷ ns) e h each =
@@ -190,7 +191,7 @@ octets_sum f (job ∷ jobs) (Some c ∷ ps) (n ∷ ns) e h each =
     each (record { part = job.want.part; packet = Some c.octets; attempts = n }) c.octets (inl refl) refl in
     sum_by-cons octets_in (Some c) ps
     ∙ (λ i. sym one i + rest i)
-    ∙ sym (sum_by-cons f job.want.part (that_came (outcome_of jobs ps ns)))
+    ∙ sym (sum_by-cons f job.want.part (parts_fetched (outcome_of jobs ps ns)))
 
 -- ---- jobs that were planned
 
@@ -223,15 +224,15 @@ module _ (passes : ℕ → ℕ → ℕ → ℕ → ℕ → ℕ → Bool) (g : Gr
   abbrev job : Part → Job
   job = job_at g.members.names g.name h
 
-  brought : (t : Part) (before : ℕ) → brings answer g.members.ring (job t) before
+  brought : (t : Part) (before : ℕ) → packet_at answer g.members.ring (job t) before
       ≡ checked_reply (want t) g.members.ring
-      (if_comes (attempt_comes passes asker loss t (attempts_of (held_plan h) t + before + 1)) (lent others t))
+      (if_comes (attempt_passes passes asker loss t (attempts_of (held_plan h) t + before + 1)) (lent others t))
   brought t before =
       ap (λ (q : Part). checked_reply (want t) g.members.ring
-      (if_comes (attempt_comes passes asker loss q (attempts_of (held_plan h) t + before + 1))
+      (if_comes (attempt_passes passes asker loss q (attempts_of (held_plan h) t + before + 1))
       (lent_first others asker q))) (want_part g h t)
       ∙ ap (λ (o : Option (List ℕ)). checked_reply (want t) g.members.ring
-      (if_comes (attempt_comes passes asker loss t (attempts_of (held_plan h) t + before + 1)) o))
+      (if_comes (attempt_passes passes asker loss t (attempts_of (held_plan h) t + before + 1)) o))
       (first_is_lent g logs others asker t all)
 
   nothing_comes : (want : WantedPart) (b : Bool) → checked_reply want g.members.ring (if_comes b None) ≡ None
@@ -247,12 +248,12 @@ module _ (passes : ℕ → ℕ → ℕ → ℕ → ℕ → ℕ → Bool) (g : Gr
   module _ (tries : ℕ) where
     -- What comes of one part.
     one_comes : (t : Part) → is_wanted (held_plan h) t ≡ true → (part : Option CheckedPart) (n : ℕ)
-        → IsFirst (brings answer g.members.ring (job t)) tries part n
-        → (option_map (λ c. c.octets) part ≡ (fetched_one (attempt_comes passes asker loss) others tries h t).packet)
-        × (n ≡ (fetched_one (attempt_comes passes asker loss) others tries h t).attempts)
+        → IsFirst (packet_at answer g.members.ring (job t)) tries part n
+        → (option_map (λ c. c.octets) part ≡ (fetched_one (attempt_passes passes asker loss) others tries h t).packet)
+        × (n ≡ (fetched_one (attempt_passes passes asker loss) others tries h t).attempts)
     one_comes t w part n f = go (lent others t) refl where
       p : ℕ → Bool
-      p k = attempt_comes passes asker loss t (attempts_of (held_plan h) t + k)
+      p k = attempt_passes passes asker loss t (attempts_of (held_plan h) t + k)
 
       whole : (octets : List ℕ) → lent others t ≡ Some octets → (b : Bool)
           → checked_reply (want t) g.members.ring (if_comes b (Some octets))
@@ -266,37 +267,37 @@ module _ (passes : ℕ → ℕ → ℕ → ℕ → ℕ → ℕ → Bool) (g : Gr
           → (option_map (λ c. c.octets) part
           ≡ cond
           (is_some (cond (is_some o)
-          (find (λ k. attempt_comes passes asker loss t (attempts_of (held_plan h) t + k)) (numbers_from 1 tries))
+          (find (λ k. attempt_passes passes asker loss t (attempts_of (held_plan h) t + k)) (numbers_from 1 tries))
           None)) o None)
           × (n
           ≡ unwrap_or (cond (is_some o)
-          (find (λ k. attempt_comes passes asker loss t (attempts_of (held_plan h) t + k)) (numbers_from 1 tries))
+          (find (λ k. attempt_passes passes asker loss t (attempts_of (held_plan h) t + k)) (numbers_from 1 tries))
           None) tries)
       go None e =
-          let r = none_comes (brings answer g.members.ring (job t)) tries part n (λ b.
+          let r = none_comes (packet_at answer g.members.ring (job t)) tries part n (λ b.
           brought t b
           ∙ ap (λ (o : Option (List ℕ)). checked_reply (want t) g.members.ring
-          (if_comes (attempt_comes passes asker loss t (attempts_of (held_plan h) t + b + 1)) o)) e
+          (if_comes (attempt_passes passes asker loss t (attempts_of (held_plan h) t + b + 1)) o)) e
           ∙ nothing_comes (want t)
-          (attempt_comes passes asker loss t (attempts_of (held_plan h) t + b + 1))) f in
+          (attempt_passes passes asker loss t (attempts_of (held_plan h) t + b + 1))) f in
           (ap (option_map (λ (c : CheckedPart). c.octets)) r.0, r.1)
       go (Some octets) e =
           let c : CheckedPart = checked_part (want t) g.members.ring octets in
           let r =
-          some_comes (brings answer g.members.ring (job t)) tries
-          (λ k. attempt_comes passes asker loss t (attempts_of (held_plan h) t + k))
+          some_comes (packet_at answer g.members.ring (job t)) tries
+          (λ k. attempt_passes passes asker loss t (attempts_of (held_plan h) t + k))
           (checked_part (want t) g.members.ring octets) (λ b.
           let k : attempts_of (held_plan h) t + b + 1 ≡ attempts_of (held_plan h) t + (b + 1) = omega arith in
           brought t b
           ∙ ap (λ (o : Option (List ℕ)). checked_reply (want t) g.members.ring
-          (if_comes (attempt_comes passes asker loss t (attempts_of (held_plan h) t + b + 1)) o)) e
-          ∙ whole octets e (attempt_comes passes asker loss t (attempts_of (held_plan h) t + b + 1))
-          ∙ ap (λ (m : ℕ). cond (attempt_comes passes asker loss t m)
+          (if_comes (attempt_passes passes asker loss t (attempts_of (held_plan h) t + b + 1)) o)) e
+          ∙ whole octets e (attempt_passes passes asker loss t (attempts_of (held_plan h) t + b + 1))
+          ∙ ap (λ (m : ℕ). cond (attempt_passes passes asker loss t m)
           (let o : Option CheckedPart = Some (checked_part (want t) g.members.ring octets) in o) None) k)
           part n f in (
             ap (option_map (λ (c : CheckedPart). c.octets)) r.0
                 ∙ octets_if
-                (is_some (find (λ k. attempt_comes passes asker loss t (attempts_of (held_plan h) t + k))
+                (is_some (find (λ k. attempt_passes passes asker loss t (attempts_of (held_plan h) t + k))
                 (numbers_from 1 tries))) (checked_part (want t) g.members.ring octets) octets refl,
             r.1,
           )
@@ -305,7 +306,7 @@ module _ (passes : ℕ → ℕ → ℕ → ℕ → ℕ → ℕ → Bool) (g : Gr
     pub fetched_is : (ts : List Part) → ((t : Part) → In t ts → is_wanted (held_plan h) t ≡ true)
         → (parts : List (Option CheckedPart)) (ns : List ℕ)
         → AreFirst answer g.members.ring tries (map job ts) parts ns
-        → outcome_of (map job ts) parts ns ≡ fetched_all (attempt_comes passes asker loss) others tries h ts
+        → outcome_of (map job ts) parts ns ≡ fetched_all (attempt_passes passes asker loss) others tries h ts
     fetched_is [] w [] [] f = refl
     fetched_is [] w [] (n ∷ ns) f = absurd f
     fetched_is [] w (p ∷ ps) ns f = absurd f
@@ -321,9 +322,9 @@ module _ (passes : ℕ → ℕ → ℕ → ℕ → ℕ → ℕ → Bool) (g : Gr
 
   -- Where every attempt comes through, one is enough.
   through : loss ≡ None → (t : Part)
-      → (fetched_one (attempt_comes passes asker loss) others 1 h t).packet ≡ lent others t
+      → (fetched_one (attempt_passes passes asker loss) others 1 h t).packet ≡ lent others t
   through e t =
-      ap (λ (l : Option ℕ). (fetched_one (attempt_comes passes asker l) others 1 h t).packet) e
+      ap (λ (l : Option ℕ). (fetched_one (attempt_passes passes asker l) others 1 h t).packet) e
       ∙ same (lent others t) where
         same : (o : Option (List ℕ))
             → cond (is_some (cond (is_some o) (let x : Option ℕ = Some 1 in x) None)) o None ≡ o
@@ -347,10 +348,11 @@ module _ (passes : ℕ → ℕ → ℕ → ℕ → ℕ → ℕ → Bool) (g : Gr
 
 -- ---- the parts that came
 
-pub came_lent : (others : List MemberState) (ts : List Part) → that_came (lent_all others ts) ≡ filter (lends others) ts
+pub came_lent : (others : List MemberState) (ts : List Part)
+    → parts_fetched (lent_all others ts) ≡ filter (lends others) ts
 came_lent others [] = refl
 came_lent others (t ∷ ts) = go (lends others t) (came_lent others ts) where
-  go : (b : Bool) → that_came (lent_all others ts) ≡ filter (lends others) ts
+  go : (b : Bool) → parts_fetched (lent_all others ts) ≡ filter (lends others) ts
       → asked_for (cond b (lent_one others t ∷ filter (λ (x : Fetched). is_some x.packet) (lent_all others ts))
       (filter (λ (x : Fetched). is_some x.packet) (lent_all others ts)))
       ≡ cond b (t ∷ filter (lends others) ts) (filter (lends others) ts)

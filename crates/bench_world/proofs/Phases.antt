@@ -24,14 +24,14 @@ use Rattle.repo_holdings.specs.HoldingsState.{HoldingsState, held_plan}
 use Rattle.repo_holdings.specs.Taking.{Fetched}
 use Rattle.repo_holdings.specs.Wanting.{job_at}
 use Rattle.repo_member.specs.MemberState.{MemberState}
-use Rattle.repo_member.specs.InGroup.{AreLogs, published_packet, that_came}
+use Rattle.repo_member.specs.InGroup.{AreLogs, published_packet, parts_fetched}
 use Rattle.repo_member.specs.Outcomes.{outcome_of, octets_in, AreJobsOf, IsOutcomeOf}
 use Rattle.repo_member.specs.ConsistentHolders.{IsConsistentHolder}
 use Rattle.repo_member.proofs.PublicLaws.{holders_want_published, rising_jobs_are_planned, holder_jobs_are_outcomes}
 use Rattle.bench_world.specs.Worlds.{AreConsistentMembers}
 use Rattle.bench_world.specs.Truth.{TriedFew}
 use Rattle.bench_world.specs.Sizes.{size_of}
-use Rattle.bench_world.specs.Lending.{lent, lends, attempt_comes, lent_answer}
+use Rattle.bench_world.specs.Lending.{lent, lends, attempt_passes, lent_answer}
 use Rattle.bench_world.specs.Gathering.{lent_one, lent_all}
 use Rattle.bench_world.specs.Fetching.{attempt_at, fetched_one, fetched_all}
 use Rattle.bench_world.proofs.NextParts.{AreAsked, all_from_in, from_slice_get}
@@ -49,8 +49,8 @@ pub record FetchComes (g : GroupKeys) (logs : Logs) (h : HoldingsState) (came : 
     (values : List (Option CheckedPart)) (counts : List ℕ) : Type 0 where
   pub outcome : IsOutcomeOf g h jobs values counts
   pub is : outcome_of jobs values counts ≡ came
-  pub parts : count_by is_some values ≡ length (that_came came)
-  pub octets : sum_by octets_in values ≡ sum_by (size_of g logs) (that_came came)
+  pub parts : count_by is_some values ≡ length (parts_fetched came)
+  pub octets : sum_by octets_in values ≡ sum_by (size_of g logs) (parts_fetched came)
   pub attempts : counts ≡ map (λ (x : Fetched). x.attempts) came
   pub many : length counts ≡ length jobs
 
@@ -154,36 +154,36 @@ module _ (passes : ℕ → ℕ → ℕ → ℕ → ℕ → ℕ → Bool) (g : Gr
         first_here)
 
     fetch_is : outcome_of jobs values counts
-        ≡ fetched_all (attempt_comes passes asker loss) others tries h ts
+        ≡ fetched_all (attempt_passes passes asker loss) others tries h ts
     fetch_is =
         ap (λ (js : List Job). outcome_of js values counts) jobs_are
         ∙ fetched_is passes g logs h others asker loss are consistent all tries ts wanted values counts
         first_planned
 
     fetch_parts : count_by is_some values
-        ≡ length (that_came (fetched_all (attempt_comes passes asker loss) others tries h ts))
+        ≡ length (parts_fetched (fetched_all (attempt_passes passes asker loss) others tries h ts))
     fetch_parts =
         sym (length-filter is_some values)
         ∙ counted jobs values counts count_parts count_attempts
-        ∙ ap (λ (xs : List Fetched). length (that_came xs)) fetch_is
+        ∙ ap (λ (xs : List Fetched). length (parts_fetched xs)) fetch_is
 
     fetch_octets : sum_by octets_in values
         ≡ sum_by (size_of g logs)
-        (that_came (fetched_all (attempt_comes passes asker loss) others tries h ts))
+        (parts_fetched (fetched_all (attempt_passes passes asker loss) others tries h ts))
     fetch_octets =
         octets_sum (size_of g logs) jobs values counts count_parts count_attempts (λ x octets i e.
         let r =
-        from_map (fetched_one (attempt_comes passes asker loss) others tries h) ts x
+        from_map (fetched_one (attempt_passes passes asker loss) others tries h) ts x
         (subst (In x) fetch_is i) in
         ap (size_of g logs) (ap (λ (y : Fetched). y.part) r.2)
         ∙ size_lent r.0 octets r.1
-        (from_packet (is_some (attempt_at (attempt_comes passes asker loss) others tries h r.0)) (lent others r.0)
+        (from_packet (is_some (attempt_at (attempt_passes passes asker loss) others tries h r.0)) (lent others r.0)
         octets (sym (ap (λ (y : Fetched). y.packet) r.2) ∙ e)))
-        ∙ ap (λ (xs : List Fetched). sum_by (size_of g logs) (that_came xs)) fetch_is
+        ∙ ap (λ (xs : List Fetched). sum_by (size_of g logs) (parts_fetched xs)) fetch_is
 
     fetch_attempts : counts
         ≡ map (λ (x : Fetched). x.attempts)
-        (fetched_all (attempt_comes passes asker loss) others tries h ts)
+        (fetched_all (attempt_passes passes asker loss) others tries h ts)
     fetch_attempts =
         attempts_in jobs values counts count_parts count_attempts
         ∙ ap (map (λ (x : Fetched). x.attempts)) fetch_is where
@@ -198,7 +198,7 @@ module _ (passes : ℕ → ℕ → ℕ → ℕ → ℕ → ℕ → Bool) (g : Gr
               ap (λ (xs : List ℕ). c ∷ xs) (attempts_in js ps cs (omega (arith, e)) (omega (arith, f)))
 
     pub fetch_comes : FetchComes g logs h
-        (fetched_all (attempt_comes passes asker loss) others tries h ts) jobs values counts
+        (fetched_all (attempt_passes passes asker loss) others tries h ts) jobs values counts
     fetch_comes = record {
       outcome = fetch_outcome;
       is = fetch_is;
@@ -237,7 +237,7 @@ module _ (passes : ℕ → ℕ → ℕ → ℕ → ℕ → ℕ → Bool) (g : Gr
         sym (length-filter is_some values)
         ∙ counted jobs values zeros
         (count_parts 1 (omega arith) asked asked_are parts values values_are ns ns refl first) count_zeros
-        ∙ ap (λ (xs : List Fetched). length (that_came xs)) gather_is
+        ∙ ap (λ (xs : List Fetched). length (parts_fetched xs)) gather_is
         ∙ ap length (came_lent others ts ∙ all_come)
 
     gather_octets : sum_by octets_in values ≡ sum_by (size_of g logs) ts
@@ -248,7 +248,7 @@ module _ (passes : ℕ → ℕ → ℕ → ℕ → ℕ → ℕ → Bool) (g : Gr
         let r = from_map (lent_one others) ts x (subst (In x) gather_is i) in
         ap (size_of g logs) (ap (λ (y : Fetched). y.part) r.2)
         ∙ size_lent r.0 octets r.1 (sym (ap (λ (y : Fetched). y.packet) r.2) ∙ e))
-        ∙ ap (λ (xs : List Fetched). sum_by (size_of g logs) (that_came xs)) gather_is
+        ∙ ap (λ (xs : List Fetched). sum_by (size_of g logs) (parts_fetched xs)) gather_is
         ∙ ap (sum_by (size_of g logs)) (came_lent others ts ∙ all_come)
 
     pub gather_comes : GatherComes g logs h others ts jobs values zeros

@@ -48,14 +48,14 @@ module _ (roster : List (List Component)) where
   of_interest : (group : List Component) (ring : List NamedKey) (i : Interest)
       → IfErr (sync_interest_verdict group roster ring i) Named
   of_interest group ring i =
-      let reported = vector_of roster (unwrap_or i.parameters []) in
+      let received = vector_of roster (unwrap_or i.parameters []) in
       err_of_two Named (ensured (is_sync_name group i.name) WrongGroup)
-      (λ u. signed_or (signer_of ring i) >>= λ signer. vector_or reported >>= λ v. Ok (signer, v))
+      (λ u. signed_or (signer_of ring i) >>= λ signer. vector_or received >>= λ v. Ok (signer, v))
       (of_group (is_sync_name group i.name))
-      (λ u. err_of_two Named (signed_or (signer_of ring i)) (λ signer. vector_or reported >>= λ v. Ok (signer, v))
+      (λ u. err_of_two Named (signed_or (signer_of ring i)) (λ signer. vector_or received >>= λ v. Ok (signer, v))
       (of_signer (signer_of ring i))
-      (λ signer. err_of_two Named (vector_or reported) (λ v. Ok (signer, v))
-      (of_numbers reported
+      (λ signer. err_of_two Named (vector_or received) (λ v. Ok (signer, v))
+      (of_numbers received
       (of_vector roster (FaultNamesMember (length roster)) (λ at. tt) (λ m n there. there) (unwrap_or i.parameters [])))
       (λ v. tt)))
 

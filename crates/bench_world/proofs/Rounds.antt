@@ -30,7 +30,7 @@ use Rattle.bench_world.specs.Worlds.{AreConsistentMembers}
 use Rattle.bench_world.specs.Sizes.{size_of}
 use Rattle.bench_world.specs.Truth.{TriedFew}
 use Rattle.bench_world.specs.Lending.{lent, lends}
-use Rattle.bench_world.specs.Holders.{HolderWords, AreHolders, CameForHolder, CameToNothing, has}
+use Rattle.bench_world.specs.Holders.{HolderPredicates, AreHolders, FetchForHolder, FetchedNothing, has}
 use Rattle.bench_world.specs.Gathering.{next_lent, lent_one, lent_all, one_each, held_sum, Counts, IsPlaceIn}
 use Rattle.bench_world.specs.Gathering.{GainsParts, NothingLeft, RoundSoFar}
 use Rattle.bench_world.proofs.PacketSizes.{size_short}
@@ -39,30 +39,30 @@ use Rattle.bench_world.proofs.NextParts.{all_from_in, in_some, none_pass, AreAsk
 use Rattle.bench_world.proofs.NextParts.{lent_none, place_later}
 use Rattle.bench_world.proofs.PhaseOutcomes.{lends_consistent, came_lent}
 
-module _ {H : Type 0} (words : HolderWords H) (holders : AreHolders words) where
+module _ {H : Type 0} (words : HolderPredicates H) (holders : AreHolders words) where
   -- ---- parts that there are
 
   module _ (g : GroupKeys) (logs : Logs) (are : AreLogs g logs) where
-    open_is : (s : H) → words.is_true g logs s → (t : Part) → is_unclaimed (held_plan (words.holdings s)) t ≡ true
+    open_is : (s : H) → words.is_consistent g logs s → (t : Part) → is_unclaimed (held_plan (words.holdings s)) t ≡ true
         → In t (all_parts logs)
     open_is s consistent t u =
         in_all_parts logs t
         (holders_want_published g logs (words.holdings s) t are (holders.holder g logs s consistent)
         (and_parts (is_wanted (held_plan (words.holdings s)) t) _ u).0)
 
-    few_stored : (s : H) → words.is_true g logs s → length (words.held s) ≤ length (all_parts logs)
+    few_stored : (s : H) → words.is_consistent g logs s → length (words.held s) ≤ length (all_parts logs)
     few_stored s consistent =
         shorter exact_parts (words.held s) (all_parts logs) (holders.in_order g logs s consistent) (all_parts_rise logs)
         (λ t i. in_all_parts logs t (holders.published g logs s t consistent
         (contains_in exact_parts (words.held s) t i)))
 
-    pub few_held : (s : H) → words.is_true g logs s → held_sum words one_each s ≤ length (all_parts logs)
+    pub few_held : (s : H) → words.is_consistent g logs s → held_sum words one_each s ≤ length (all_parts logs)
     few_held s consistent =
         let n : held_sum words one_each s ≡ length (words.held s) = ones (words.held s) in
         let most : length (words.held s) ≤ length (all_parts logs) = few_stored s consistent in
         omega (arith, n, most)
 
-    pub few_octets : (s : H) → words.is_true g logs s
+    pub few_octets : (s : H) → words.is_consistent g logs s
         → held_sum words (size_of g logs) s ≤ length (all_parts logs) * 8800
     few_octets s consistent =
         let sum : held_sum words (size_of g logs) s ≤ length (words.held s) * 8800 =
@@ -97,13 +97,13 @@ module _ {H : Type 0} (words : HolderWords H) (holders : AreHolders words) where
       (all : AreConsistentMembers g logs others) where
     -- ---- a phase
 
-    module _ (a : H) (consistent : words.is_true g logs a) (ts : List Part)
+    module _ (a : H) (consistent : words.is_consistent g logs a) (ts : List Part)
         (all_open : (t : Part) → In t ts → is_unclaimed (held_plan (words.holdings a)) t ≡ true) where
       -- What is lent comes truly.
-      come : All (CameForHolder g logs (words.holdings a)) (lent_all others ts)
-      come = all_from_in (CameForHolder g logs (words.holdings a)) (lent_all others ts) (λ x i.
+      come : All (FetchForHolder g logs (words.holdings a)) (lent_all others ts)
+      come = all_from_in (FetchForHolder g logs (words.holdings a)) (lent_all others ts) (λ x i.
           let r : (t : Part) × (In t ts) × (x ≡ lent_one others t) = from_map (lent_one others) ts x i in
-          subst (CameForHolder g logs (words.holdings a)) (sym r.2)
+          subst (FetchForHolder g logs (words.holdings a)) (sym r.2)
           (record { unclaimed = all_open r.0 r.1; packet = one r.0 (lent others r.0) refl })) where
             one : (t : Part) (o : Option (List ℕ)) → lent others t ≡ o
                 → IfSome o (λ octets. published_packet g logs t ≡ Some octets)
@@ -115,7 +115,7 @@ module _ {H : Type 0} (words : HolderWords H) (holders : AreHolders words) where
           let r : (t : Part) × (In t ts) × (x ≡ lent_one others t) = from_map (lent_one others) ts x i in
           ap (λ (y : Fetched). y.attempts) r.2)
 
-      taken_consistently : words.is_true g logs (words.takes (lent_all others ts) a)
+      taken_consistently : words.is_consistent g logs (words.takes (lent_all others ts) a)
       taken_consistently = holders.takes_consistently g logs (lent_all others ts) a are come consistent
 
       taken_has : (t : Part) → has words (words.takes (lent_all others ts) a) t
@@ -164,9 +164,9 @@ module _ {H : Type 0} (words : HolderWords H) (holders : AreHolders words) where
       pub phase_nothing : length (filter (lends others) ts) ≡ 0 → words.takes (lent_all others ts) a ≡ a
       phase_nothing e =
           holders.takes_nothing (lent_all others ts) a
-          (all_from_in CameToNothing (lent_all others ts) (λ x i.
+          (all_from_in FetchedNothing (lent_all others ts) (λ x i.
           let r : (t : Part) × (In t ts) × (x ≡ lent_one others t) = from_map (lent_one others) ts x i in
-          subst CameToNothing (sym r.2)
+          subst FetchedNothing (sym r.2)
           (record { packet = none (lent others r.0) (none_pass (lends others) ts e r.0 r.1); attempts = refl }))) where
             none : (o : Option (List ℕ)) → is_some o ≡ false → o ≡ None
             none None e = refl
@@ -174,7 +174,7 @@ module _ {H : Type 0} (words : HolderWords H) (holders : AreHolders words) where
 
     -- ---- rounds
 
-    pub gains_none : (a : H) → words.is_true g logs a → GainsParts words g logs others a a
+    pub gains_none : (a : H) → words.is_consistent g logs a → GainsParts words g logs others a a
     gains_none a consistent = record {
       rest = refl;
       consistent = consistent;
@@ -197,7 +197,7 @@ module _ {H : Type 0} (words : HolderWords H) (holders : AreHolders words) where
         → Counts words weight m b c → Counts words weight (n + m) a c
     counts_both weight n m a b c h k = omega (arith, h, k)
 
-    pub round_begins : (a : H) → words.is_true g logs a → RoundSoFar words g logs others None 0 a a
+    pub round_begins : (a : H) → words.is_consistent g logs a → RoundSoFar words g logs others None 0 a a
     round_begins a consistent =
         record { gains = gains_none a consistent; count = omega arith; still = λ e t u past. absurd (true≢false past) }
 

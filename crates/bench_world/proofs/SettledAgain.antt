@@ -11,9 +11,9 @@ use Rattle.sorted_lists.proofs.Sets.{In, in_map, from_map}
 use Rattle.group_model.specs.Publications.{Logs}
 use Rattle.group_model.specs.Member.{Member, member_holds, plan_of, catalogue}
 use Rattle.group_model.specs.World.{World, no_member, member, logs, logs_of, someone_holds}
-use Rattle.group_model.specs.Settles.{IsGathering, HasGathered}
+use Rattle.group_model.specs.Settles.{IsGathering, HasFetchedAll}
 use Rattle.group_model.specs.Sound.{IsSoundGroup, IsSoundMember}
-use Rattle.group_model.specs.Steps.{settled_vector, settled_member, comes_to, new_parts, reset_each, after_gathering}
+use Rattle.group_model.specs.Steps.{settled_vector, settled_member, is_gained, new_parts, reset_each, after_gathering}
 use Rattle.group_model.specs.Steps.{after_settle}
 use Rattle.group_model.specs.Publications.{all_parts}
 use Rattle.group_model.proofs.Among.{in_all_parts}
@@ -24,7 +24,7 @@ use Rattle.group_model.proofs.Plans.{IsWanted, wanted_parts}
 use Rattle.group_model.proofs.PublicLaws.{gathering_settles}
 use Rattle.group_model.proofs.Settles.{comes, someone, join_all_each, join_all_most, sound_gathered, keeps_held, gets}
 use Rattle.bench_world.specs.Settling.{ArePartlySettled}
-use Rattle.bench_world.specs.Runs.{HaveSettledPart, HaveSameMembers, GathersAgain, SettlesAgain}
+use Rattle.bench_world.specs.Runs.{HaveSettledPartly, HaveSameMembers, GathersAgain, SettlesAgain}
 use Rattle.bench_world.specs.Worlds.{GroupState, in_groups, world_of, drawing}
 use Rattle.bench_world.proofs.States.{sound_state}
 
@@ -37,13 +37,13 @@ someone_is (m ∷ ms) t h = elim (or_cases (member_holds m t) (someone_holds ms 
 ]
 
 -- What a member comes to hold in a settle it held, or someone did.
-came_of : (w : World) (m : Member) (t : Part) → member_holds (settled_member w m) t ≡ true
+holder_packet_response : (w : World) (m : Member) (t : Part) → member_holds (settled_member w m) t ≡ true
     → (member_holds m t ≡ true) ⊎ (someone_holds w.members t ≡ true)
-came_of w m t h = elim (cases_Bool (member_holds m t)) [
+holder_packet_response w m t h = elim (cases_Bool (member_holds m t)) [
   | inl was ↦ inl was
   | inr fresh ↦
       inr (comes w m t
-      (from_filter (comes_to w m) (all_parts (logs w)) t (held_fresh (new_parts w m) m t h fresh)).1).someones
+      (from_filter (is_gained w m) (all_parts (logs w)) t (held_fresh (new_parts w m) m t h fresh)).1).someones
 ]
 
 module _ (w : World) (new : List Member) (group : IsSoundGroup w) (partly : ArePartlySettled w new)
@@ -71,7 +71,7 @@ module _ (w : World) (new : List Member) (group : IsSoundGroup w) (partly : AreP
   someone_then t h =
       let r = someone_is new t h in
       let inside : r.0 < length w.members = let e = partly.len in let l = r.1 in omega (arith, l, e) in
-      elim (came_of w (member w r.0) t ((partly.each r.0 inside).came t r.2)) [
+      elim (holder_packet_response w (member w r.0) t ((partly.each r.0 inside).came t r.2)) [
         | inl was ↦ someone w.members (member w r.0) t (in_at w.members r.0 no_member inside) was
         | inr someone_ ↦ someone_
       ]
@@ -131,8 +131,8 @@ module _ (w : World) (new : List Member) (group : IsSoundGroup w) (partly : AreP
             next_process = e.next_process i;
           };
           kept = λ t h. keeps_held stopped again j there_new t (e.kept t h);
-          came = λ t h. elim (came_of stopped (member stopped j) t h) [
-            | inl was ↦ came_of w (member w j) t (e.came t was)
+          came = λ t h. elim (holder_packet_response stopped (member stopped j) t h) [
+            | inl was ↦ holder_packet_response w (member w j) t (e.came t was)
             | inr someone_ ↦ inr (someone_then t someone_)
           ];
         }
@@ -144,7 +144,7 @@ module _ (w : World) (new : List Member) (group : IsSoundGroup w) (partly : AreP
           | inl zero_ ↦
               subst (λ (x : ℕ). someone_holds new (record { publisher = t.publisher; seq = t.seq; part = x }) ≡ true)
               zero_ someone_
-          | inr held ↦ elim (came_of stopped (member stopped j) (record_of t) held.with_record) [
+          | inr held ↦ elim (holder_packet_response stopped (member stopped j) (record_of t) held.with_record) [
             | inl was ↦ someone new (member stopped j) (record_of t) (in_at new j no_member there_new) was
             | inr holds ↦ holds
           ]
@@ -159,7 +159,7 @@ module _ (w : World) (new : List Member) (group : IsSoundGroup w) (partly : AreP
         }) in
         true≢false
         (sym (gets stopped again j there_new t inside (record {
-          reported = wanted.known.to_known;
+          received = wanted.known.to_known;
           not_hidden = wanted.not_hidden;
           someones = someone_;
           record_too = record_too;
@@ -167,7 +167,7 @@ module _ (w : World) (new : List Member) (group : IsSoundGroup w) (partly : AreP
         }))
         ∙ wanted.not_held)
 
-    gathered : HasGathered w then
+    gathered : HasFetchedAll w then
     gathered t wanted = elim (cases_Bool (someone_holds w.members t)) [
       | inl someone_ ↦
           absurd (gets_it t (wanted_parts (logs stopped) then t
@@ -199,7 +199,7 @@ have_same w v same = record {
   catalogues = λ j. ap (λ (ms : List Member). catalogue (logs_of ms) (get_or ms j no_member)) same;
 }
 
-module _ (old new : GroupState) (part : HaveSettledPart old new) where
+module _ (old new : GroupState) (part : HaveSettledPartly old new) where
   world_is : world_of new ≡ record (world_of old) { members = in_groups new.members }
   world_is = ap world_of part.same
 
@@ -210,12 +210,12 @@ module _ (old new : GroupState) (part : HaveSettledPart old new) where
       (subst IsSoundGroup world_is (sound_state new part.consistent))
 
 pub gathers_again : GathersAgain
-gathers_again out old new part =
-    have_same (after_gathering out (world_of new)) (after_gathering out (world_of old))
+gathers_again env old new part =
+    have_same (after_gathering env (world_of new)) (after_gathering env (world_of old))
     (ap members_settled (world_is old new part) ∙ all_settled old new part)
 
 pub settles_again : SettlesAgain
-settles_again out old new part =
-    have_same (after_settle out (world_of new)) (after_settle out (world_of old))
-    (ap (λ (w : World). reset_each out w.time 0 (members_settled w)) (world_is old new part)
-    ∙ ap (reset_each out old.time 0) (all_settled old new part))
+settles_again env old new part =
+    have_same (after_settle env (world_of new)) (after_settle env (world_of old))
+    (ap (λ (w : World). reset_each env w.time 0 (members_settled w)) (world_is old new part)
+    ∙ ap (reset_each env old.time 0) (all_settled old new part))

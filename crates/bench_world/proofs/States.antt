@@ -204,10 +204,10 @@ module _ (s : GroupState) (is : IsConsistentState s) where
         mirrors_few = is.mirrors_few;
       }
 
-  module _ (few : s.steps < 100000) (out : Environment) (small : HasSmallPackets out (world_of s)) (e : Event)
+  module _ (few : s.steps < 100000) (env : Environment) (small : HasSmallPackets env (world_of s)) (e : Event)
       (range : IsInRange e) where
-    pub within_more : IsWithinSteps (s.steps + 1) (after_event out (world_of s) e)
-    within_more = within_after out s.steps (world_of s) e is.steps few_here small range is.within
+    pub within_more : IsWithinSteps (s.steps + 1) (after_event env (world_of s) e)
+    within_more = within_after env s.steps (world_of s) e is.steps few_here small range is.within
 
     -- After an event that publishes nothing.
     pub stepped : (members : List MemberState) (sent : List SentPacket) (time : ℕ) (tally : Tally)
@@ -215,7 +215,7 @@ module _ (s : GroupState) (is : IsConsistentState s) where
         → AreConsistentMembers s.keys (logs_around s.members) members
         → All (IsConsistentSync s.keys (logs_around s.members)) sent
         → world_of (record s { members = members; sent = sent; time = time; tally = tally; steps = s.steps + 1 })
-        ≡ after_event out (world_of s) e
+        ≡ after_event env (world_of s) e
         → IsConsistentState (record s {
           members = members;
           sent = sent;
@@ -234,7 +234,7 @@ module _ (s : GroupState) (is : IsConsistentState s) where
         → All (IsConsistentSync s.keys (logs_around s.members)) sent
         → world_of
         (record s { members = set s.members m b; sent = sent; time = time; tally = tally; steps = s.steps + 1 })
-        ≡ after_event out (world_of s) e
+        ≡ after_event env (world_of s) e
         → IsConsistentState
         (record s { members = set s.members m b; sent = sent; time = time; tally = tally; steps = s.steps + 1 })
     stepped_at m there b number one sent time tally syncs world_is =

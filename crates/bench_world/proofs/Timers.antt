@@ -7,7 +7,7 @@ use Rattle.std.proofs.lemmas.List.Elements.{All-append}
 use Rattle.bench_net.specs.SentList.{SentPacket, sent_packet}
 use Rattle.svs_sync.specs.declared.fired.Fired.{Fired}
 use Rattle.svs_sync.specs.declared.fired.Fired.TheVariants as fired
-use Rattle.svs_sync.specs.KeptVector.{fires_kept}
+use Rattle.svs_sync.specs.SyncStates.{fires_joined}
 use Rattle.group_model.specs.Member.{Member}
 use Rattle.group_model.specs.Events.{SyncInterest, Event}
 use Rattle.group_model.specs.World.{World, no_member, member}
@@ -15,14 +15,14 @@ use Rattle.group_model.specs.Steps.{timer_at, after_fire, after_restart, drawn}
 use Rattle.group_model.specs.Changes as group
 use Rattle.repo_member.specs.declared.member.syncing.Fire.{Fire}
 use Rattle.repo_member.specs.declared.member.syncing.Fire.TheVariants as does
-use Rattle.repo_member.specs.Fires.{ReportsFire}
+use Rattle.repo_member.specs.Fires.{IsFireAnswer}
 use Rattle.repo_member.specs.MemberState.{MemberState, member_fires, member_restarts}
 use Rattle.repo_member.specs.InGroup.{in_group}
 use Rattle.repo_member.specs.Verdicts.{sync_of}
 use Rattle.repo_member.specs.ConsistentMembers.{IsConsistentMember}
 use Rattle.repo_member.proofs.PublicLaws.{fire_is_event, fires_consistent, restarts_consistent}
-use Rattle.bench_world.specs.EventValues.{Reported, fired_reported}
-use Rattle.bench_world.specs.Timers.{after_firing, fire_reported}
+use Rattle.bench_world.specs.EventValues.{ReportValue, fired_report}
+use Rattle.bench_world.specs.Timers.{after_firing, fire_report}
 use Rattle.bench_world.specs.Worlds.{GroupState, IsConsistentState, IsConsistentSync, in_groups, logs_around, sync_in}
 use Rattle.bench_world.specs.Worlds.{world_of}
 use Rattle.bench_world.specs.Worlds.{drawing}
@@ -42,22 +42,22 @@ later_state s is few ms short =
 
 module _ (s : GroupState) (is : IsConsistentState s) (m : ℕ) (there : m < length s.members) (old : MemberState)
     (old_is : old ≡ get_or s.members m old) where
-  timer_is : timer_at (world_of s) m ≡ fires_kept s.time old.known old.machine
-  timer_is = ap (λ (x : Member). fires_kept s.time x.known x.machine) (member_is s is m there old old_is)
+  timer_is : timer_at (world_of s) m ≡ fires_joined s.time old.known old.machine
+  timer_is = ap (λ (x : Member). fires_joined s.time x.known x.machine) (member_is s is m there old old_is)
 
-  pub fires_so : (n : ℕ) (fire : Fire) (reported : Reported)
-      → ReportsFire (fires_kept s.time old.known old.machine) (sync_of s.keys old.number old.known) fire
-      → reported ≡ fire_reported m n fire → n ≡ length s.sent + 1
-      → reported ≡ fired_reported m (length (map sync_in s.sent) + 1) (timer_at (world_of s) m)
-  fires_so n fire reported tells e n_is =
+  pub fires_so : (n : ℕ) (fire : Fire) (received : ReportValue)
+      → IsFireAnswer (fires_joined s.time old.known old.machine) (sync_of s.keys old.number old.known) fire
+      → received ≡ fire_report m n fire → n ≡ length s.sent + 1
+      → received ≡ fired_report m (length (map sync_in s.sent) + 1) (timer_at (world_of s) m)
+  fires_so n fire received tells e n_is =
       e
-      ∙ go (fires_kept s.time old.known old.machine) fire tells
-      ∙ (λ i. fired_reported m (count i) (sym timer_is i)) where
+      ∙ go (fires_joined s.time old.known old.machine) fire tells
+      ∙ (λ i. fired_report m (count i) (sym timer_is i)) where
         count : n ≡ length (map sync_in s.sent) + 1
         count = let k = length-map s.sent sync_in in omega (arith, n_is, k)
 
-        go : (x : Fired) (f : Fire) → ReportsFire x (sync_of s.keys old.number old.known) f
-            → fire_reported m n f ≡ fired_reported m n x
+        go : (x : Fired) (f : Fire) → IsFireAnswer x (sync_of s.keys old.number old.known) f
+            → fire_report m n f ≡ fired_report m n x
         go fired.Early does.Early t = refl
         go fired.Quiet does.Quiet t = refl
         go fired.Send (does.Sent sync) t = refl
@@ -95,7 +95,7 @@ module _ (s : GroupState) (is : IsConsistentState s) (m : ℕ) (there : m < leng
     -- ---- a timer
 
     module _ (b_is : b ≡ member_fires s.time n old) (fire : Fire)
-        (tells : ReportsFire (fires_kept s.time old.known old.machine) (sync_of s.keys old.number old.known) fire)
+        (tells : IsFireAnswer (fires_joined s.time old.known old.machine) (sync_of s.keys old.number old.known) fire)
         (sent reserved : List SentPacket) (vector : List ℕ)
         (reserved_is : reserved ≡ s.sent) (vector_is : vector ≡ old.known)
         (sent_is : sent ≡ after_firing m vector fire reserved) where
@@ -120,7 +120,7 @@ module _ (s : GroupState) (is : IsConsistentState s) (m : ℕ) (there : m < leng
           ap (set (in_groups s.members) m)
           (get_or-set_same (in_groups s.members) m _ no_member (among s is m there old old_is))
 
-      syncs_so : (x : Fired) (f : Fire) → ReportsFire x (sync_of s.keys old.number old.known) f
+      syncs_so : (x : Fired) (f : Fire) → IsFireAnswer x (sync_of s.keys old.number old.known) f
           → map sync_in (after_firing m old.known f s.sent) ≡ (after_fire (drawing draw) (world_of s) m x).sent
       syncs_so fired.Early does.Early t = refl
       syncs_so fired.Quiet does.Quiet t = refl
@@ -157,9 +157,9 @@ module _ (s : GroupState) (is : IsConsistentState s) (m : ℕ) (there : m < leng
           ∙ members_so (timer_at (world_of s) m))
           (ap (map sync_in) sent_so
           ∙ syncs_so (timer_at (world_of s) m) fire
-          (subst (λ (x : Fired). ReportsFire x (sync_of s.keys old.number old.known) fire) (sym timer_is) tells))
+          (subst (λ (x : Fired). IsFireAnswer x (sync_of s.keys old.number old.known) fire) (sym timer_is) tells))
 
-      all_sent : (x : Fired) (f : Fire) → ReportsFire x (sync_of s.keys old.number old.known) f
+      all_sent : (x : Fired) (f : Fire) → IsFireAnswer x (sync_of s.keys old.number old.known) f
           → All (IsConsistentSync s.keys (logs_around s.members)) (after_firing m old.known f s.sent)
       all_sent x does.Early t = is.sent
       all_sent x does.Quiet t = is.sent
@@ -187,4 +187,4 @@ module _ (s : GroupState) (is : IsConsistentState s) (m : ℕ) (there : m < leng
           (fires_consistent s.keys (logs_around s.members) s.time n old (consistent s is m there old old_is)))
           sent s.time s.tally
           (subst (All (IsConsistentSync s.keys (logs_around s.members))) (sym sent_so)
-          (all_sent (fires_kept s.time old.known old.machine) fire tells)) fired_world
+          (all_sent (fires_joined s.time old.known old.machine) fire tells)) fired_world

@@ -5,15 +5,15 @@ use Rattle.repo_plan.specs.declared.part.Part.{Part}
 use Rattle.repo_plan.specs.Parts.{Pair, pair_of}
 use Rattle.repo_object.specs.Published.{Published, IsCollisionFree}
 use Rattle.group_model.specs.Publications.{Logs, post_at}
-use Rattle.group_model.specs.Member.{member_holds, member_hides}
+use Rattle.group_model.specs.Member.{member_holds, has_deleted}
 use Rattle.group_model.specs.Events as group
 use Rattle.group_model.specs.World.{member, logs}
 use Rattle.group_model.specs.Steps.{claim_at}
 use Rattle.group_model.specs.Refusals.{refusal}
 use Rattle.repo_member.specs.Groups.{GroupKeys, publisher_at}
 use Rattle.bench_world.specs.Worlds.{GroupState, world_of}
-use Rattle.bench_world.specs.Serving.{keyed}
-use Rattle.bench_world.specs.EventValues.{EventValue, Reported, event_report}
+use Rattle.bench_world.specs.Serving.{lossless}
+use Rattle.bench_world.specs.EventValues.{EventValue, ReportValue, event_report}
 
 -- A publication of a group, by its publisher and its number.
 abbrev pub published_at : GroupKeys → Logs → Pair → Published
@@ -24,19 +24,19 @@ abbrev pub AreAllCollisionFree : GroupKeys → Logs → Type 0
 AreAllCollisionFree g logs = IsCollisionFree (published_at g logs)
 
 -- An answer is taken, and kept.
-pub record IsKept (s : GroupState) (j f q : ℕ) : Type 0 where
-  pub taken : refusal (keyed s.keys) (world_of s) (group.Event.Answer j f q) ≡ None
-  pub reported : event_report s.keys (keyed s.keys) (world_of s) (EventValue.Answer j f q) ≡ Reported.AnswerKept j f
+pub record IsAnswerStored (s : GroupState) (j f q : ℕ) : Type 0 where
+  pub taken : refusal (lossless s.keys) (world_of s) (group.Event.Answer j f q) ≡ None
+  pub report : event_report s.keys (lossless s.keys) (world_of s) (EventValue.Answer j f q) ≡ ReportValue.AnswerKept j f
 
 -- So is one from a member that holds the claimed part.
 abbrev pub HoldersCanAnswer : GroupState → Type 0
 HoldersCanAnswer s =
     AreAllCollisionFree s.keys (logs (world_of s)) → (j f q : ℕ) (t : Part) → j < length s.members → q
     < length s.members
-    → claim_at (world_of s) j f ≡ Some t → member_holds (member (world_of s) q) t ≡ true → IsKept s j f q
+    → claim_at (world_of s) j f ≡ Some t → member_holds (member (world_of s) q) t ≡ true → IsAnswerStored s j f q
 
 -- So a claimed part can be had from its publisher, unless that has hidden its publication.
 abbrev pub PublishersCanAnswer : GroupState → Type 0
 PublishersCanAnswer s = AreAllCollisionFree s.keys (logs (world_of s)) → (j f : ℕ) (t : Part) → j < length s.members
     → claim_at (world_of s) j f ≡ Some t
-    → IsKept s j f t.publisher ⊎ (member_hides (member (world_of s) t.publisher) (pair_of t) ≡ true)
+    → IsAnswerStored s j f t.publisher ⊎ (has_deleted (member (world_of s) t.publisher) (pair_of t) ≡ true)

@@ -7,8 +7,8 @@ use Rattle.repo_plan.specs.Plan.{claim_of}
 use Rattle.repo_object.specs.declared.part_refusal.PartRefusal.{PartRefusal}
 use Rattle.repo_object.specs.Verdict.{ring_verdict}
 use Rattle.group_model.specs.Publications.{Logs}
-use Rattle.group_model.specs.Events.{Came}
-use Rattle.group_model.specs.Events.Came.{Nothing, Its, Another}
+use Rattle.group_model.specs.Events.{Response}
+use Rattle.group_model.specs.Events.Response.{Nothing, Its, Another}
 use Rattle.repo_member.specs.Groups.{GroupKeys}
 use Rattle.repo_member.specs.MemberState.{MemberState, member_plan, member_accepts}
 use Rattle.repo_member.specs.InGroup.{published_packet}
@@ -19,7 +19,7 @@ use Rattle.bench_world.specs.declared.answering.Fed.{Fed}
 use Rattle.bench_world.specs.declared.answering.Fed.TheVariants.{Kept}
 use Rattle.bench_world.specs.Sizes.{size_of}
 use Rattle.bench_world.specs.Worlds.{state_at}
-use Rattle.bench_world.specs.Serving.{octets_as, came_of}
+use Rattle.bench_world.specs.Serving.{octets_response, holder_packet_response}
 
 -- ---- claims
 
@@ -28,14 +28,14 @@ abbrev pub claim_in : List MemberState → ℕ → ℕ → Option Part
 claim_in members m f = claim_of (member_plan (state_at members m)) f
 
 -- What another member gives for a claim.
-abbrev pub came_in : GroupKeys → Logs → List MemberState → ℕ → Option Part → Came
-came_in g logs members q None = Nothing
-came_in g logs members q (Some t) = came_of g logs (keys (state_at members q).store) t
+abbrev pub holder_response : GroupKeys → Logs → List MemberState → ℕ → Option Part → Response
+holder_response g logs members q None = Nothing
+holder_response g logs members q (Some t) = holder_packet_response g logs (keys (state_at members q).store) t
 
 -- What octets from outside are for a claim.
-abbrev pub came_for : GroupKeys → Logs → List ℕ → Option Part → Came
-came_for g logs octets None = Nothing
-came_for g logs octets (Some t) = octets_as g logs t octets
+abbrev pub outside_response : GroupKeys → Logs → List ℕ → Option Part → Response
+outside_response g logs octets None = Nothing
+outside_response g logs octets (Some t) = octets_response g logs t octets
 
 -- Who is asked: another, or the asker itself.
 abbrev pub lender_of : MemberState → Option MemberState → MemberState
@@ -45,18 +45,18 @@ lender_of asker (Some other) = other
 -- ---- what is told
 
 -- The octets that are kept, or none, or why it is refused: a fetcher that claims nothing has number 7.
-abbrev pub answered : GroupKeys → Logs → Option Part → Came → Result (Option ℕ) EventError
+abbrev pub answered : GroupKeys → Logs → Option Part → Response → Result (Option ℕ) EventError
 answered g logs None came = Err FetcherIdle
 answered g logs (Some t) Nothing = Ok None
 answered g logs (Some t) Its = Ok (Some (size_of g logs t))
 answered g logs (Some t) Another = Err Foreign
 
--- What is reported of octets, by the verdict on them.
+-- The report of octets, by the verdict on them.
 abbrev pub fed_by : Result Data PartRefusal → Fed
 fed_by (Ok d) = Kept
 fed_by (Err refusal) = Fed.Refused refusal
 
--- What is reported of octets that come for a part: they are kept, or refused for a reason.
+-- The report of octets that come for a part: they are kept, or refused for a reason.
 abbrev pub fed_as : GroupKeys → Logs → List ℕ → Part → Fed
 fed_as g logs octets t = fed_by (ring_verdict (published_want g logs t) g.members.ring octets)
 
@@ -68,12 +68,12 @@ kept_of octets (Fed.Refused refusal) = None
 -- ---- what becomes of the member
 
 -- Where the publisher's packet of the claimed part came, it is accepted.
-abbrev pub accepts_claimed : GroupKeys → Logs → ℕ → Part → Came → MemberState → MemberState
+abbrev pub accepts_claimed : GroupKeys → Logs → ℕ → Part → Response → MemberState → MemberState
 accepts_claimed g logs f t Nothing a = a
 accepts_claimed g logs f t Its a = member_accepts f t (unwrap_or (published_packet g logs t) []) a
 accepts_claimed g logs f t Another a = a
 
 -- The member after something came for what the fetcher claims, if it claims a part.
-abbrev pub after_claimed : GroupKeys → Logs → ℕ → Option Part → Came → MemberState → MemberState
+abbrev pub after_claimed : GroupKeys → Logs → ℕ → Option Part → Response → MemberState → MemberState
 after_claimed g logs f None came a = a
 after_claimed g logs f (Some t) came a = accepts_claimed g logs f t came a

@@ -3,8 +3,8 @@ use Rattle.std.specs.Prelude.{ℕ, List, [], ◌∷◌, ◌++◌, slice_set}
 use Rattle.bench_net.specs.SentList.{SentPacket, sent_packet}
 use Rattle.repo_member.specs.declared.member.block.Blocked.{Blocked}
 use Rattle.repo_member.specs.declared.member.block.Blocked.TheVariants as blocked
-use Rattle.bench_world.specs.EventValues.{Reported}
-use Rattle.bench_world.specs.EventValues.Reported.{Block404, Block200, Block300, BlockPublished}
+use Rattle.bench_world.specs.EventValues.{ReportValue}
+use Rattle.bench_world.specs.EventValues.ReportValue.{Block404, Block200, Block300, BlockPublished}
 
 -- What is sent then, where what the member knew before is this vector.
 abbrev pub after_blocked : ℕ → List ℕ → Blocked → List SentPacket → List SentPacket
@@ -14,9 +14,9 @@ after_blocked m vector blocked.Already sent = sent
 after_blocked m vector (blocked.Published published) sent =
     sent ++ sent_packet m (slice_set vector m published.seq) published.sync.items ∷ []
 
--- What is reported of it, where the next sync Interest has this number.
-abbrev pub blocked_reported : ℕ → ℕ → Blocked → Reported
-blocked_reported m k blocked.Unknown = Block404 m
-blocked_reported m k blocked.Waiting = Block300 m
-blocked_reported m k blocked.Already = Block200 m
-blocked_reported m k (blocked.Published published) = BlockPublished m published.seq k
+-- The report of it, where the next sync Interest has this number.
+abbrev pub blocked_report : ℕ → ℕ → Blocked → ReportValue
+blocked_report m k blocked.Unknown = Block404 m
+blocked_report m k blocked.Waiting = Block300 m
+blocked_report m k blocked.Already = Block200 m
+blocked_report m k (blocked.Published published) = BlockPublished m published.seq k

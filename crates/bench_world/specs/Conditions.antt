@@ -17,7 +17,7 @@ use Rattle.repo_member.specs.ConsistentMembers.{IsConsistentMember, published_wa
 use Rattle.repo_mirror.specs.MirrorState.{MirrorState, mirror_holdings}
 use Rattle.repo_mirror.specs.ConsistentMirrors.{IsConsistentMirror}
 use Rattle.bench_world.specs.declared.touched.Touched.{Touched}
-use Rattle.bench_world.specs.Holders.{HolderWords}
+use Rattle.bench_world.specs.Holders.{HolderPredicates}
 use Rattle.bench_world.specs.MemberWords.{member_words}
 use Rattle.bench_world.specs.Touching.{LacksOnlyTouched, NoneLacks}
 use Rattle.bench_world.specs.Unsettled.{MirrorLacksNone, MirrorsLackNone}
@@ -67,15 +67,15 @@ pub record CanAnswerAt (g : GroupKeys) (ls : Logs) (f m q : ℕ) (ms : List Memb
 
 -- ---- one holder and the members that lend
 
-module _ {H : Type 0} (words : HolderWords H) where
+module _ {H : Type 0} (words : HolderPredicates H) where
   -- It gathers in a settle, in which the network loses nothing.
-  pub record CanGather (g : GroupKeys) (ls : Logs) (n : ℕ) (touched : Touched) (lenders : List MemberState)
+  pub record CanFetchAll (g : GroupKeys) (ls : Logs) (n : ℕ) (touched : Touched) (lenders : List MemberState)
       (lost : Option ℕ) (s : H) : Type 0 where
     pub workers : (1 ≤ n) × (n ≤ 16)
     pub logs : AreFewLogs g ls
     pub others : AreConsistentMembers g ls lenders
     pub loss : lost ≡ None
-    pub consistent : words.is_true g ls s
+    pub consistent : words.is_consistent g ls s
     pub tried : TriedFew (words.holdings s)
     pub lacks : LacksOnlyTouched words touched lenders s
 
@@ -85,7 +85,7 @@ module _ {H : Type 0} (words : HolderWords H) where
     pub tries : (1 ≤ most) × (most ≤ 16)
     pub logs : AreFewLogs g ls
     pub others : AreConsistentMembers g ls lenders
-    pub consistent : words.is_true g ls s
+    pub consistent : words.is_consistent g ls s
     pub tried : TriedFew (words.holdings s)
 
 -- ---- one mirror and all members
@@ -103,28 +103,28 @@ pub record CanFetchFor (g : GroupKeys) (n most i : ℕ) (lenders : List MemberSt
   pub tried : TriedFew (mirror_holdings (mirror_at ms i))
 
 -- It has learnt nothing yet of a settle, in which members lend what they store. They know this vector together.
-pub record CanGatherFor (g : GroupKeys) (n i : ℕ) (lenders : List MemberState) (touched : Touched)
-    (reported : List ℕ) (ms : List MirrorState) : Type 0 where
+pub record CanFetchAllFor (g : GroupKeys) (n i : ℕ) (lenders : List MemberState) (touched : Touched)
+    (received : List ℕ) (ms : List MirrorState) : Type 0 where
   pub workers : (1 ≤ n) × (n ≤ 16)
   pub there : i < length ms
   pub few : i < 4
   pub logs : AreFewLogs g (logs_around lenders)
   pub sound : IsSoundGroup (only_members lenders)
   pub others : AreConsistentMembers g (logs_around lenders) lenders
-  pub known : reported ≡ settled_vector (only_members lenders)
+  pub known : received ≡ settled_vector (only_members lenders)
   pub consistent : IsConsistentMirror g (logs_around lenders) (mirror_at ms i)
   pub tried : TriedFew (mirror_holdings (mirror_at ms i))
   pub lacks : MirrorLacksNone touched (someone_holds (in_groups lenders)) (mirror_at ms i)
 
 -- The same of all mirrors.
-pub record CanGatherForAll (g : GroupKeys) (n : ℕ) (lenders : List MemberState) (touched : Touched)
-    (reported : List ℕ) (ms : List MirrorState) : Type 0 where
+pub record CanFetchAllForMirrors (g : GroupKeys) (n : ℕ) (lenders : List MemberState) (touched : Touched)
+    (received : List ℕ) (ms : List MirrorState) : Type 0 where
   pub workers : (1 ≤ n) × (n ≤ 16)
   pub few : length ms ≤ 4
   pub logs : AreFewLogs g (logs_around lenders)
   pub sound : IsSoundGroup (only_members lenders)
   pub others : AreConsistentMembers g (logs_around lenders) lenders
-  pub known : reported ≡ settled_vector (only_members lenders)
+  pub known : received ≡ settled_vector (only_members lenders)
   pub consistent : (i : ℕ) → i < length ms → IsConsistentMirror g (logs_around lenders) (mirror_at ms i)
   pub tried : (i : ℕ) → i < length ms → TriedFew (mirror_holdings (mirror_at ms i))
   pub lacks : MirrorsLackNone touched (in_groups lenders) ms
@@ -138,7 +138,7 @@ pub record CanTell (g : GroupKeys) (ls : Logs) (ms : List MemberState) : Type 0 
   pub consistent : AreConsistentMembers g ls ms
 
 -- The member of this number gathers.
-pub record CanGatherAt (g : GroupKeys) (ls : Logs) (n j : ℕ) (touched : Touched) (ms : List MemberState) : Type
+pub record CanFetchAllAt (g : GroupKeys) (ls : Logs) (n j : ℕ) (touched : Touched) (ms : List MemberState) : Type
     0 where
   pub workers : (1 ≤ n) × (n ≤ 16)
   pub there : j < length ms

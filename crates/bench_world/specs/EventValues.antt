@@ -1,4 +1,4 @@
--- The events of a step, and what is reported of them, as values: names as lists of components, octets as lists of
+-- The events of a step, and their reports, as values: names as lists of components, octets as lists of
 -- numbers.
 use Rattle.std.specs.Prelude.{ℕ, Bool, List, map, length, Option, Some, None, Result, Ok, Err}
 use Rattle.std.specs.Prelude.{if◌then◌else◌}
@@ -36,7 +36,7 @@ use Rattle.bench_world.specs.declared.event.Event.{Event}
 use Rattle.bench_world.specs.declared.event.Event.TheVariants as is
 use Rattle.bench_world.specs.declared.event.Happened.{Happened}
 use Rattle.bench_world.specs.declared.event.Happened.TheVariants as was
-use Rattle.bench_world.specs.Serving.{octets_as}
+use Rattle.bench_world.specs.Serving.{octets_response}
 use Rattle.bench_world.specs.Readings.{read_as, finds}
 
 -- ---- events
@@ -121,7 +121,7 @@ group_event g (EventValue.Settle workers) = group.Event.Settle
 group_event g (EventValue.Dump m p s x) = group.Event.Dump m (part_at p s x)
 group_event g (EventValue.Hear m octets) = group.Event.Hear m (read_as (group_verdict g octets))
 group_event g (EventValue.Ask m octets) = group.Event.Ask m (finds g octets)
-group_event g (EventValue.Feed m f octets) = group.Event.Feed m f (λ logs t. octets_as g logs t octets)
+group_event g (EventValue.Feed m f octets) = group.Event.Feed m f (λ logs t. octets_response g logs t octets)
 group_event g (EventValue.Order m octets) = group.Event.Order m (order_of g m octets)
 group_event g (EventValue.Insert m client name first last) = group.Event.Issue m client (command.Insert name first last)
 group_event g (EventValue.Block m process index content) = group.Event.Block m process index content
@@ -133,216 +133,216 @@ group_event g EventValue.Traffic = group.Event.Traffic
 -- ---- what is told
 
 -- Each form of a reply, with its values. Nothing is reported of an event that is refused.
-pub data Reported : Type 0 where
-  Nothing : Reported
-  Publish : (m seq segments sync : ℕ) → Reported
-  Withdraw : (m seq withdrawn sync : ℕ) → Reported
-  DeliverSteady : (k m : ℕ) → Reported
-  DeliverSuppressed : (k m : ℕ) → Reported
-  Sync : (k : ℕ) (octets : List ℕ) → Reported
-  Advance : (now : ℕ) → Reported
-  FireEarly : (m : ℕ) → Reported
-  FireQuiet : (m : ℕ) → Reported
-  FireSent : (m k : ℕ) → Reported
-  Restart : (m : ℕ) → Reported
-  Vector : (m : ℕ) (members numbers : List ℕ) → Reported
-  Catalogue : (m count : ℕ) (entries : List Entry) → Reported
-  ClaimPart : (m f publisher seq x : ℕ) → Reported
-  ClaimNone : (m f : ℕ) → Reported
-  Lose : (m f publisher seq x : ℕ) → Reported
-  AnswerKept : (m f : ℕ) → Reported
-  AnswerNone : (m f : ℕ) → Reported
-  Fetch : (m planned kept attempts : ℕ) → Reported
-  Settle : (syncs kept : ℕ) → Reported
-  DumpHex : (m : ℕ) (octets : List ℕ) → Reported
-  DumpNone : (m : ℕ) → Reported
-  HearSteady : (m : ℕ) → Reported
-  HearSuppressed : (m : ℕ) → Reported
-  HearRefused : (m : ℕ) (refusal : HearRefusal) → Reported
-  AskFound : (m : ℕ) (octets : List ℕ) → Reported
-  AskNone : (m : ℕ) → Reported
-  AskRefused : (m : ℕ) (refusal : PacketFault) → Reported
-  FeedKept : (m f : ℕ) → Reported
-  FeedRefused : (m f : ℕ) (refusal : PartRefusal) → Reported
-  Order : (m code : ℕ) (process inserted deleted : Option ℕ) → Reported
-  Insert : (m code : ℕ) (process inserted deleted : Option ℕ) → Reported
-  Status : (m code : ℕ) (process inserted deleted : Option ℕ) → Reported
-  Delete : (m code : ℕ) (process inserted deleted : Option ℕ) → Reported
-  Block300 : (m : ℕ) → Reported
-  Block404 : (m : ℕ) → Reported
-  Block200 : (m : ℕ) → Reported
-  BlockPublished : (m seq sync : ℕ) → Reported
-  Summary : (members entries segments octets : List ℕ) → Reported
-  Traffic : (syncs delivered attempts parts octets : ℕ) → Reported
+pub data ReportValue : Type 0 where
+  Nothing : ReportValue
+  Publish : (m seq segments sync : ℕ) → ReportValue
+  Withdraw : (m seq withdrawn sync : ℕ) → ReportValue
+  DeliverSteady : (k m : ℕ) → ReportValue
+  DeliverSuppressed : (k m : ℕ) → ReportValue
+  Sync : (k : ℕ) (octets : List ℕ) → ReportValue
+  Advance : (now : ℕ) → ReportValue
+  FireEarly : (m : ℕ) → ReportValue
+  FireQuiet : (m : ℕ) → ReportValue
+  FireSent : (m k : ℕ) → ReportValue
+  Restart : (m : ℕ) → ReportValue
+  Vector : (m : ℕ) (members numbers : List ℕ) → ReportValue
+  Catalogue : (m count : ℕ) (entries : List Entry) → ReportValue
+  ClaimPart : (m f publisher seq x : ℕ) → ReportValue
+  ClaimNone : (m f : ℕ) → ReportValue
+  Lose : (m f publisher seq x : ℕ) → ReportValue
+  AnswerKept : (m f : ℕ) → ReportValue
+  AnswerNone : (m f : ℕ) → ReportValue
+  Fetch : (m planned kept attempts : ℕ) → ReportValue
+  Settle : (syncs kept : ℕ) → ReportValue
+  DumpHex : (m : ℕ) (octets : List ℕ) → ReportValue
+  DumpNone : (m : ℕ) → ReportValue
+  HearSteady : (m : ℕ) → ReportValue
+  HearSuppressed : (m : ℕ) → ReportValue
+  HearRefused : (m : ℕ) (refusal : HearRefusal) → ReportValue
+  AskFound : (m : ℕ) (octets : List ℕ) → ReportValue
+  AskNone : (m : ℕ) → ReportValue
+  AskRefused : (m : ℕ) (refusal : PacketFault) → ReportValue
+  FeedKept : (m f : ℕ) → ReportValue
+  FeedRefused : (m f : ℕ) (refusal : PartRefusal) → ReportValue
+  Order : (m code : ℕ) (process inserted deleted : Option ℕ) → ReportValue
+  Insert : (m code : ℕ) (process inserted deleted : Option ℕ) → ReportValue
+  Status : (m code : ℕ) (process inserted deleted : Option ℕ) → ReportValue
+  Delete : (m code : ℕ) (process inserted deleted : Option ℕ) → ReportValue
+  Block300 : (m : ℕ) → ReportValue
+  Block404 : (m : ℕ) → ReportValue
+  Block200 : (m : ℕ) → ReportValue
+  BlockPublished : (m seq sync : ℕ) → ReportValue
+  Summary : (members entries segments octets : List ℕ) → ReportValue
+  Traffic : (syncs delivered attempts parts octets : ℕ) → ReportValue
 
 -- The value of a report of the program.
-abbrev pub reported_value : Happened → Reported
-reported_value (was.Publish m seq segments sync) = Reported.Publish m seq segments sync
-reported_value (was.Withdraw m seq withdrawn sync) = Reported.Withdraw m seq withdrawn sync
-reported_value (was.DeliverSteady k m) = Reported.DeliverSteady k m
-reported_value (was.DeliverSuppressed k m) = Reported.DeliverSuppressed k m
-reported_value (was.Sync k octets) = Reported.Sync k octets.items
-reported_value (was.Advance now) = Reported.Advance now
-reported_value (was.FireEarly m) = Reported.FireEarly m
-reported_value (was.FireQuiet m) = Reported.FireQuiet m
-reported_value (was.FireSent m k) = Reported.FireSent m k
-reported_value (was.Restart m) = Reported.Restart m
-reported_value (was.Vector m members numbers) = Reported.Vector m members.items numbers.items
-reported_value (was.Catalogue m count entries) = Reported.Catalogue m count entries.items
-reported_value (was.ClaimPart m f publisher seq x) = Reported.ClaimPart m f publisher seq x
-reported_value (was.ClaimNone m f) = Reported.ClaimNone m f
-reported_value (was.Lose m f publisher seq x) = Reported.Lose m f publisher seq x
-reported_value (was.AnswerKept m f) = Reported.AnswerKept m f
-reported_value (was.AnswerNone m f) = Reported.AnswerNone m f
-reported_value (was.Fetch m planned kept attempts) = Reported.Fetch m planned kept attempts
-reported_value (was.Settle syncs kept) = Reported.Settle syncs kept
-reported_value (was.DumpHex m octets) = Reported.DumpHex m octets.items
-reported_value (was.DumpNone m) = Reported.DumpNone m
-reported_value (was.HearSteady m) = Reported.HearSteady m
-reported_value (was.HearSuppressed m) = Reported.HearSuppressed m
-reported_value (was.HearRefused m refusal) = Reported.HearRefused m refusal
-reported_value (was.AskFound m octets) = Reported.AskFound m octets.items
-reported_value (was.AskNone m) = Reported.AskNone m
-reported_value (was.AskRefused m refusal) = Reported.AskRefused m refusal
-reported_value (was.FeedKept m f) = Reported.FeedKept m f
-reported_value (was.FeedRefused m f refusal) = Reported.FeedRefused m f refusal
-reported_value (was.Order m code process inserted deleted) = Reported.Order m code process inserted deleted
-reported_value (was.Insert m code process inserted deleted) = Reported.Insert m code process inserted deleted
-reported_value (was.Status m code process inserted deleted) = Reported.Status m code process inserted deleted
-reported_value (was.Delete m code process inserted deleted) = Reported.Delete m code process inserted deleted
-reported_value (was.Block300 m) = Reported.Block300 m
-reported_value (was.Block404 m) = Reported.Block404 m
-reported_value (was.Block200 m) = Reported.Block200 m
-reported_value (was.BlockPublished m seq sync) = Reported.BlockPublished m seq sync
-reported_value (was.Summary members entries segments octets) =
-    Reported.Summary members.items entries.items segments.items octets.items
-reported_value (was.Traffic syncs delivered attempts parts octets) = Reported.Traffic syncs delivered attempts parts
+abbrev pub report_value : Happened → ReportValue
+report_value (was.Publish m seq segments sync) = ReportValue.Publish m seq segments sync
+report_value (was.Withdraw m seq withdrawn sync) = ReportValue.Withdraw m seq withdrawn sync
+report_value (was.DeliverSteady k m) = ReportValue.DeliverSteady k m
+report_value (was.DeliverSuppressed k m) = ReportValue.DeliverSuppressed k m
+report_value (was.Sync k octets) = ReportValue.Sync k octets.items
+report_value (was.Advance now) = ReportValue.Advance now
+report_value (was.FireEarly m) = ReportValue.FireEarly m
+report_value (was.FireQuiet m) = ReportValue.FireQuiet m
+report_value (was.FireSent m k) = ReportValue.FireSent m k
+report_value (was.Restart m) = ReportValue.Restart m
+report_value (was.Vector m members numbers) = ReportValue.Vector m members.items numbers.items
+report_value (was.Catalogue m count entries) = ReportValue.Catalogue m count entries.items
+report_value (was.ClaimPart m f publisher seq x) = ReportValue.ClaimPart m f publisher seq x
+report_value (was.ClaimNone m f) = ReportValue.ClaimNone m f
+report_value (was.Lose m f publisher seq x) = ReportValue.Lose m f publisher seq x
+report_value (was.AnswerKept m f) = ReportValue.AnswerKept m f
+report_value (was.AnswerNone m f) = ReportValue.AnswerNone m f
+report_value (was.Fetch m planned kept attempts) = ReportValue.Fetch m planned kept attempts
+report_value (was.Settle syncs kept) = ReportValue.Settle syncs kept
+report_value (was.DumpHex m octets) = ReportValue.DumpHex m octets.items
+report_value (was.DumpNone m) = ReportValue.DumpNone m
+report_value (was.HearSteady m) = ReportValue.HearSteady m
+report_value (was.HearSuppressed m) = ReportValue.HearSuppressed m
+report_value (was.HearRefused m refusal) = ReportValue.HearRefused m refusal
+report_value (was.AskFound m octets) = ReportValue.AskFound m octets.items
+report_value (was.AskNone m) = ReportValue.AskNone m
+report_value (was.AskRefused m refusal) = ReportValue.AskRefused m refusal
+report_value (was.FeedKept m f) = ReportValue.FeedKept m f
+report_value (was.FeedRefused m f refusal) = ReportValue.FeedRefused m f refusal
+report_value (was.Order m code process inserted deleted) = ReportValue.Order m code process inserted deleted
+report_value (was.Insert m code process inserted deleted) = ReportValue.Insert m code process inserted deleted
+report_value (was.Status m code process inserted deleted) = ReportValue.Status m code process inserted deleted
+report_value (was.Delete m code process inserted deleted) = ReportValue.Delete m code process inserted deleted
+report_value (was.Block300 m) = ReportValue.Block300 m
+report_value (was.Block404 m) = ReportValue.Block404 m
+report_value (was.Block200 m) = ReportValue.Block200 m
+report_value (was.BlockPublished m seq sync) = ReportValue.BlockPublished m seq sync
+report_value (was.Summary members entries segments octets) =
+    ReportValue.Summary members.items entries.items segments.items octets.items
+report_value (was.Traffic syncs delivered attempts parts octets) = ReportValue.Traffic syncs delivered attempts parts
     octets
 
 -- ---- what is told in a world
 
 -- The report of a sync Interest that a member heard, by the mode of its machine afterwards.
-abbrev pub delivered_reported : ℕ → ℕ → Mode → Reported
-delivered_reported k m Steady = Reported.DeliverSteady k m
-delivered_reported k m Suppressed = Reported.DeliverSuppressed k m
+abbrev pub delivered_report : ℕ → ℕ → Mode → ReportValue
+delivered_report k m Steady = ReportValue.DeliverSteady k m
+delivered_report k m Suppressed = ReportValue.DeliverSuppressed k m
 
 -- Where the next sync Interest has this number.
-abbrev pub fired_reported : ℕ → ℕ → Fired → Reported
-fired_reported m k fired.Early = Reported.FireEarly m
-fired_reported m k fired.Quiet = Reported.FireQuiet m
-fired_reported m k fired.Send = Reported.FireSent m k
+abbrev pub fired_report : ℕ → ℕ → Fired → ReportValue
+fired_report m k fired.Early = ReportValue.FireEarly m
+fired_report m k fired.Quiet = ReportValue.FireQuiet m
+fired_report m k fired.Send = ReportValue.FireSent m k
 
 -- The report of a claim: the part that the fetcher claims now, or that there is none.
-abbrev pub claim_reported : ℕ → ℕ → Option Part → Reported
-claim_reported m f None = Reported.ClaimNone m f
-claim_reported m f (Some t) = Reported.ClaimPart m f t.publisher t.seq t.part
+abbrev pub claim_report : ℕ → ℕ → Option Part → ReportValue
+claim_report m f None = ReportValue.ClaimNone m f
+claim_report m f (Some t) = ReportValue.ClaimPart m f t.publisher t.seq t.part
 
 -- A fetcher that claims nothing is refused.
-abbrev pub lost_reported : ℕ → ℕ → Option Part → Reported
-lost_reported m f None = Reported.Nothing
-lost_reported m f (Some t) = Reported.Lose m f t.publisher t.seq t.part
+abbrev pub lost_report : ℕ → ℕ → Option Part → ReportValue
+lost_report m f None = ReportValue.Nothing
+lost_report m f (Some t) = ReportValue.Lose m f t.publisher t.seq t.part
 
 -- The report of an answer for a claimed part: it was kept, or nothing was.
-abbrev pub answer_reported : ℕ → ℕ → Bool → Reported
-answer_reported m f kept = if kept then Reported.AnswerKept m f else Reported.AnswerNone m f
+abbrev pub answer_report : ℕ → ℕ → Bool → ReportValue
+answer_report m f kept = if kept then ReportValue.AnswerKept m f else ReportValue.AnswerNone m f
 
 -- The report of the packet that a member holds of a part, if it holds one.
-abbrev pub dump_reported : ℕ → Option (List ℕ) → Reported
-dump_reported m None = Reported.DumpNone m
-dump_reported m (Some octets) = Reported.DumpHex m octets
+abbrev pub dump_report : ℕ → Option (List ℕ) → ReportValue
+dump_report m None = ReportValue.DumpNone m
+dump_report m (Some octets) = ReportValue.DumpHex m octets
 
 -- The report of octets that a member took as a sync Interest, by the mode of its machine afterwards.
-abbrev pub mode_reported : ℕ → Mode → Reported
-mode_reported m Steady = Reported.HearSteady m
-mode_reported m Suppressed = Reported.HearSuppressed m
+abbrev pub mode_report : ℕ → Mode → ReportValue
+mode_report m Steady = ReportValue.HearSteady m
+mode_report m Suppressed = ReportValue.HearSuppressed m
 
 -- The report of a sync Interest from outside: the mode then, or that it has too many publications of the member.
-abbrev pub heard_as : ℕ → Result Mode (ℕ × ℕ) → Reported
-heard_as m (Ok mode) = mode_reported m mode
-heard_as m (Err ahead) = Reported.HearRefused m (hear.OwnNumberAhead ahead.0 ahead.1)
+abbrev pub heard_as : ℕ → Result Mode (ℕ × ℕ) → ReportValue
+heard_as m (Ok mode) = mode_report m mode
+heard_as m (Err ahead) = ReportValue.HearRefused m (hear.OwnNumberAhead ahead.0 ahead.1)
 
 -- Where octets are refused, why is reported by the verdict on them.
-abbrev pub hear_reported : (m : ℕ) (verdict : Result (ℕ × List ℕ) SyncRefusal) → HearOutcome (read_as verdict)
-    → Reported
-hear_reported m (Err refusal) heard = Reported.HearRefused m (hear.Sync refusal)
-hear_reported m (Ok reported) heard = heard_as m heard
+abbrev pub hear_report : (m : ℕ) (verdict : Result (ℕ × List ℕ) SyncRefusal) → HearOutcome (read_as verdict)
+    → ReportValue
+hear_report m (Err refusal) heard = ReportValue.HearRefused m (hear.Sync refusal)
+hear_report m (Ok outcome) heard = heard_as m heard
 
 -- The report of octets that ask a member as an Interest: the packet, that there is none, or their fault.
-abbrev pub ask_reported : ℕ → Result (Option (List ℕ)) PacketFault → Reported
-ask_reported m (Err fault) = Reported.AskRefused m fault
-ask_reported m (Ok None) = Reported.AskNone m
-ask_reported m (Ok (Some octets)) = Reported.AskFound m octets
+abbrev pub ask_report : ℕ → Result (Option (List ℕ)) PacketFault → ReportValue
+ask_report m (Err fault) = ReportValue.AskRefused m fault
+ask_report m (Ok None) = ReportValue.AskNone m
+ask_report m (Ok (Some octets)) = ReportValue.AskFound m octets
 
 -- The report of octets that are handed to a fetcher, by the verdict on them.
-abbrev pub fed_reported : ℕ → ℕ → Result Data PartRefusal → Reported
-fed_reported m f (Ok d) = Reported.FeedKept m f
-fed_reported m f (Err refusal) = Reported.FeedRefused m f refusal
+abbrev pub fed_report : ℕ → ℕ → Result Data PartRefusal → ReportValue
+fed_report m f (Ok d) = ReportValue.FeedKept m f
+fed_report m f (Err refusal) = ReportValue.FeedRefused m f refusal
 
 -- A fetcher that claims nothing is refused.
-abbrev pub feed_reported : GroupKeys → World → ℕ → ℕ → List ℕ → Option Part → Reported
-feed_reported g w m f octets None = Reported.Nothing
-feed_reported g w m f octets (Some t) = fed_reported m f
+abbrev pub feed_report : GroupKeys → World → ℕ → ℕ → List ℕ → Option Part → ReportValue
+feed_report g w m f octets None = ReportValue.Nothing
+feed_report g w m f octets (Some t) = fed_report m f
     (ring_verdict (published_want g (logs w) t) g.members.ring octets)
 
 -- What a command is answered.
-abbrev pub order_reported : ℕ → CommandAnswer → Reported
-order_reported m a = Reported.Order m a.code a.process a.inserted a.deleted
+abbrev pub order_report : ℕ → CommandAnswer → ReportValue
+order_report m a = ReportValue.Order m a.code a.process a.inserted a.deleted
 
 -- The report of an insertion that a client asked for.
-abbrev pub insert_reported : ℕ → CommandAnswer → Reported
-insert_reported m a = Reported.Insert m a.code a.process a.inserted a.deleted
+abbrev pub insert_report : ℕ → CommandAnswer → ReportValue
+insert_report m a = ReportValue.Insert m a.code a.process a.inserted a.deleted
 
 -- The report of a check of an insertion process.
-abbrev pub status_reported : ℕ → CommandAnswer → Reported
-status_reported m a = Reported.Status m a.code a.process a.inserted a.deleted
+abbrev pub status_report : ℕ → CommandAnswer → ReportValue
+status_report m a = ReportValue.Status m a.code a.process a.inserted a.deleted
 
 -- The report of a deletion that a client asked for.
-abbrev pub delete_reported : ℕ → CommandAnswer → Reported
-delete_reported m a = Reported.Delete m a.code a.process a.inserted a.deleted
+abbrev pub delete_report : ℕ → CommandAnswer → ReportValue
+delete_report m a = ReportValue.Delete m a.code a.process a.inserted a.deleted
 
--- What a block comes to, where the next publication and the next sync Interest have these numbers.
-abbrev pub block_reported : (m seq sync : ℕ) → BlockState → Reported
-block_reported m seq sync Unknown = Reported.Block404 m
-block_reported m seq sync Already = Reported.Block200 m
-block_reported m seq sync (Waiting p) = Reported.Block300 m
-block_reported m seq sync (Whole p) = Reported.BlockPublished m seq sync
+-- The report of a block, by its state, where the next publication and the next sync Interest have these numbers.
+abbrev pub block_report : (m seq sync : ℕ) → BlockState → ReportValue
+block_report m seq sync Unknown = ReportValue.Block404 m
+block_report m seq sync Already = ReportValue.Block200 m
+block_report m seq sync (Waiting p) = ReportValue.Block300 m
+block_report m seq sync (Whole p) = ReportValue.BlockPublished m seq sync
 
--- What is reported of an event, by what the model says of it. Of octets that are asked with or fed, the model has only
+-- The report of an event, by its outcome in the model. Of octets that are asked with or fed, the model has only
 -- whether they pass, and their verdict is reported.
-abbrev pub event_reported : (g : GroupKeys) → World → (e : EventValue) → OutcomeOf (group_event g e) → Reported
-event_reported g w (EventValue.Publish m name size content) reported = Reported.Publish m reported.seq reported.segments
-    reported.sync
-event_reported g w (EventValue.Withdraw m s) reported = Reported.Withdraw m reported.seq s reported.sync
-event_reported g w (EventValue.Deliver k m) mode = delivered_reported k m mode
-event_reported g w (EventValue.Sync k) sync = Reported.Sync k (sync_of g sync.sender sync.vector)
-event_reported g w (EventValue.Advance ms) time = Reported.Advance time
-event_reported g w (EventValue.Fire m) reported = fired_reported m reported.sync reported.timer
-event_reported g w (EventValue.Restart m) reported = Reported.Restart m
-event_reported g w (EventValue.Vector m) vector = Reported.Vector m (numbers_from 0 (length w.members)) vector
-event_reported g w (EventValue.Catalogue m) entries = Reported.Catalogue m (length entries) entries
-event_reported g w (EventValue.Claim m f) part = claim_reported m f part
-event_reported g w (EventValue.Lose m f) part = lost_reported m f part
-event_reported g w (EventValue.Answer m f q) kept = answer_reported m f kept
-event_reported g w (EventValue.Fetch m workers tries loss) reported = Reported.Fetch m reported.planned reported.kept
-    reported.attempts
-event_reported g w (EventValue.Settle workers) reported = Reported.Settle reported.syncs reported.kept
-event_reported g w (EventValue.Dump m p s x) held =
-    dump_reported m (if held then published_packet g (logs w) (part_at p s x) else None)
-event_reported g w (EventValue.Hear m octets) heard = hear_reported m (group_verdict g octets) heard
-event_reported g w (EventValue.Ask m octets) found = ask_reported m
+abbrev pub outcome_report : (g : GroupKeys) → World → (e : EventValue) → OutcomeOf (group_event g e) → ReportValue
+outcome_report g w (EventValue.Publish m name size content) outcome = ReportValue.Publish m outcome.seq outcome.segments
+    outcome.sync
+outcome_report g w (EventValue.Withdraw m s) outcome = ReportValue.Withdraw m outcome.seq s outcome.sync
+outcome_report g w (EventValue.Deliver k m) mode = delivered_report k m mode
+outcome_report g w (EventValue.Sync k) sync = ReportValue.Sync k (sync_of g sync.sender sync.vector)
+outcome_report g w (EventValue.Advance ms) time = ReportValue.Advance time
+outcome_report g w (EventValue.Fire m) outcome = fired_report m outcome.sync outcome.timer
+outcome_report g w (EventValue.Restart m) outcome = ReportValue.Restart m
+outcome_report g w (EventValue.Vector m) vector = ReportValue.Vector m (numbers_from 0 (length w.members)) vector
+outcome_report g w (EventValue.Catalogue m) entries = ReportValue.Catalogue m (length entries) entries
+outcome_report g w (EventValue.Claim m f) part = claim_report m f part
+outcome_report g w (EventValue.Lose m f) part = lost_report m f part
+outcome_report g w (EventValue.Answer m f q) kept = answer_report m f kept
+outcome_report g w (EventValue.Fetch m workers tries loss) outcome = ReportValue.Fetch m outcome.planned outcome.kept
+    outcome.attempts
+outcome_report g w (EventValue.Settle workers) outcome = ReportValue.Settle outcome.syncs outcome.kept
+outcome_report g w (EventValue.Dump m p s x) held =
+    dump_report m (if held then published_packet g (logs w) (part_at p s x) else None)
+outcome_report g w (EventValue.Hear m octets) heard = hear_report m (group_verdict g octets) heard
+outcome_report g w (EventValue.Ask m octets) found = ask_report m
     (served octets (published_packets g (logs w) (member w m).held))
-event_reported g w (EventValue.Feed m f octets) kept = feed_reported g w m f octets (claim_at w m f)
-event_reported g w (EventValue.Order m octets) answer = order_reported m answer
-event_reported g w (EventValue.Insert m client name first last) answer = insert_reported m answer
-event_reported g w (EventValue.Block m process index content) reported = block_reported m reported.seq reported.sync
-    reported.state
-event_reported g w (EventValue.Status m client process) answer = status_reported m answer
-event_reported g w (EventValue.Delete m client name) answer = delete_reported m answer
-event_reported g w EventValue.Summary totals = Reported.Summary (numbers_from 0 (length w.members))
+outcome_report g w (EventValue.Feed m f octets) kept = feed_report g w m f octets (claim_at w m f)
+outcome_report g w (EventValue.Order m octets) answer = order_report m answer
+outcome_report g w (EventValue.Insert m client name first last) answer = insert_report m answer
+outcome_report g w (EventValue.Block m process index content) outcome = block_report m outcome.seq outcome.sync
+    outcome.state
+outcome_report g w (EventValue.Status m client process) answer = status_report m answer
+outcome_report g w (EventValue.Delete m client name) answer = delete_report m answer
+outcome_report g w EventValue.Summary totals = ReportValue.Summary (numbers_from 0 (length w.members))
     (map (λ t. t.entries) totals) (map (λ t. t.segments) totals) (map (λ t. t.octets) totals)
-event_reported g w EventValue.Traffic reported =
-    Reported.Traffic reported.syncs reported.delivered reported.attempts reported.parts reported.octets
+outcome_report g w EventValue.Traffic outcome =
+    ReportValue.Traffic outcome.syncs outcome.delivered outcome.attempts outcome.parts outcome.octets
 
 -- The report of an event in a world.
-abbrev pub event_report : GroupKeys → Environment → World → EventValue → Reported
-event_report g out w e = event_reported g w e (outcome out w (group_event g e))
+abbrev pub event_report : GroupKeys → Environment → World → EventValue → ReportValue
+event_report g env w e = outcome_report g w e (outcome env w (group_event g e))

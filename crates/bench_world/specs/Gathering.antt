@@ -10,7 +10,7 @@ use Rattle.group_model.specs.Publications.{Logs}
 use Rattle.repo_member.specs.Groups.{GroupKeys}
 use Rattle.repo_member.specs.MemberState.{MemberState}
 use Rattle.bench_world.specs.Lending.{lent, lends}
-use Rattle.bench_world.specs.Holders.{HolderWords, has}
+use Rattle.bench_world.specs.Holders.{HolderPredicates, has}
 
 -- The parts of the next phase of a fetch: the least 4,096 that are wanted and unclaimed, after a place.
 abbrev pub next_parts : Option Part → HoldingsState → List Part
@@ -37,11 +37,11 @@ IsPlaceIn ts (Some t) = contains part_cmp ts t ≡ true
 abbrev pub one_each : Part → ℕ
 one_each t = 1
 
-module _ {H : Type 0} (words : HolderWords H) where
+module _ {H : Type 0} (words : HolderPredicates H) where
   -- A holder has gained parts of those that others store, and nothing else of it changed.
   pub record GainsParts (g : GroupKeys) (logs : Logs) (others : List MemberState) (old new : H) : Type 0 where
     pub rest : words.rest new ≡ words.rest old
-    pub consistent : words.is_true g logs new
+    pub consistent : words.is_consistent g logs new
     pub kept : (t : Part) → has words old t ≡ true → has words new t ≡ true
     pub came : (t : Part) → has words new t ≡ true → (has words old t ≡ true) ⊎ (lends others t ≡ true)
     pub hidden : (pair : Pair) → hides (held_plan (words.holdings old)) pair ≡ true

@@ -6,8 +6,8 @@ use Rattle.repo_member.specs.declared.refusals.HearRefusal.{HearRefusal}
 use Rattle.repo_member.specs.declared.refusals.HearRefusal.TheVariants.{Sync, OwnNumberAhead}
 
 -- The sync Interest that a member of this number takes, which has published so often, or why it doesn't.
-abbrev pub reported_sync : (own number : ℕ) → Result (ℕ × List ℕ) SyncRefusal → Result SyncInterest HearRefusal
-reported_sync own number (Err refusal) = Err (Sync refusal)
-reported_sync own number (Ok reported) =
-    if nat_lt own (slice_index reported.1 number) then Err (OwnNumberAhead own (slice_index reported.1 number))
-    else Ok (record { sender = reported.0; vector = reported.1 })
+abbrev pub accepted_sync : (own number : ℕ) → Result (ℕ × List ℕ) SyncRefusal → Result SyncInterest HearRefusal
+accepted_sync own number (Err refusal) = Err (Sync refusal)
+accepted_sync own number (Ok received) =
+    if nat_lt own (slice_index received.1 number) then Err (OwnNumberAhead own (slice_index received.1 number))
+    else Ok (record { sender = received.0; vector = received.1 })

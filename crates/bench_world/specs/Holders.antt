@@ -14,20 +14,20 @@ use Rattle.group_model.specs.Publications.{Logs}
 use Rattle.group_model.specs.Sound.{IsPublishedPart}
 use Rattle.repo_member.specs.Groups.{GroupKeys}
 use Rattle.repo_member.specs.MemberState.{MemberState}
-use Rattle.repo_member.specs.InGroup.{AreLogs, published_packet, that_came}
+use Rattle.repo_member.specs.InGroup.{AreLogs, published_packet, parts_fetched}
 use Rattle.repo_member.specs.ConsistentHolders.{IsConsistentHolder}
 use Rattle.bench_world.specs.Lending.{lends}
 
 -- What contracts say of a holder of some kind.
-pub record HolderWords (H : Type 0) : Type 1 where
+pub record HolderPredicates (H : Type 0) : Type 1 where
   pub holdings : H → HoldingsState  -- what it has of publications; its plan is read there
   pub held : H → List Part  -- the parts that it has come to hold, in order
   pub rest : H → H  -- all of it but those
   pub takes : List Fetched → H → H  -- what it makes of what came
-  pub is_true : GroupKeys → Logs → H → Type 0  -- what it holds is what was published
+  pub is_consistent : GroupKeys → Logs → H → Type 0  -- what it holds is what was published
 
 -- It holds the part.
-abbrev pub has : {H : Type 0} → HolderWords H → H → Part → Bool
+abbrev pub has : {H : Type 0} → HolderPredicates H → H → Part → Bool
 has words s t = contains part_cmp (words.held s) t
 
 -- The jobs of the least parts that are wanted and unclaimed, after a place, and that pass a test, at most so many.
@@ -41,32 +41,32 @@ abbrev pub lent_jobs : GroupKeys → List MemberState → HoldingsState → Opti
 lent_jobs g others h after most = jobs_that (lends others) g h after most
 
 -- A part that it wants and that no fetcher claims was asked for, and nothing came, or its packet.
-pub record CameForHolder (g : GroupKeys) (logs : Logs) (h : HoldingsState) (x : Fetched) : Type 0 where
+pub record FetchForHolder (g : GroupKeys) (logs : Logs) (h : HoldingsState) (x : Fetched) : Type 0 where
   pub unclaimed : is_unclaimed (held_plan h) x.part ≡ true
   pub packet : IfSome x.packet (λ octets. published_packet g logs x.part ≡ Some octets)
 
 -- No packet came, and no attempt is counted.
-pub record CameToNothing (x : Fetched) : Type 0 where
+pub record FetchedNothing (x : Fetched) : Type 0 where
   pub packet : x.packet ≡ None
   pub attempts : x.attempts ≡ 0
 
 -- What holds of each holder of a kind: what it holds is in order, was published, and isn't wanted; where packets of
 -- wanted parts come, it holds those parts too; nothing else of it changes where no attempt is counted; and what it
 -- hides stays hidden.
-pub record AreHolders {H : Type 0} (words : HolderWords H) : Type 0 where
-  pub holder : (g : GroupKeys) (logs : Logs) (s : H) → words.is_true g logs s
+pub record AreHolders {H : Type 0} (words : HolderPredicates H) : Type 0 where
+  pub holder : (g : GroupKeys) (logs : Logs) (s : H) → words.is_consistent g logs s
       → IsConsistentHolder g logs (words.holdings s)
-  pub in_order : (g : GroupKeys) (logs : Logs) (s : H) → words.is_true g logs s → Rises part_cmp (words.held s)
-  pub published : (g : GroupKeys) (logs : Logs) (s : H) (t : Part) → words.is_true g logs s → has words s t ≡ true
+  pub in_order : (g : GroupKeys) (logs : Logs) (s : H) → words.is_consistent g logs s → Rises part_cmp (words.held s)
+  pub published : (g : GroupKeys) (logs : Logs) (s : H) (t : Part) → words.is_consistent g logs s → has words s t ≡ true
       → IsPublishedPart logs t
   pub not_held : (s : H) (t : Part) → is_wanted (held_plan (words.holdings s)) t ≡ true → has words s t ≡ false
   pub takes_consistently : (g : GroupKeys) (logs : Logs) (xs : List Fetched) (s : H) → AreLogs g logs
-      → All (CameForHolder g logs (words.holdings s)) xs → words.is_true g logs s
-      → words.is_true g logs (words.takes xs s)
+      → All (FetchForHolder g logs (words.holdings s)) xs → words.is_consistent g logs s
+      → words.is_consistent g logs (words.takes xs s)
   pub takes_those : (g : GroupKeys) (logs : Logs) (xs : List Fetched) (s : H) (t : Part) → AreLogs g logs
-      → All (CameForHolder g logs (words.holdings s)) xs → words.is_true g logs s
-      → has words (words.takes xs s) t ≡ (contains part_cmp (that_came xs) t || has words s t)
-  pub takes_nothing : (xs : List Fetched) (s : H) → All CameToNothing xs → words.takes xs s ≡ s
+      → All (FetchForHolder g logs (words.holdings s)) xs → words.is_consistent g logs s
+      → has words (words.takes xs s) t ≡ (contains part_cmp (parts_fetched xs) t || has words s t)
+  pub takes_nothing : (xs : List Fetched) (s : H) → All FetchedNothing xs → words.takes xs s ≡ s
   pub rest_stays : (xs : List Fetched) (s : H) → All (λ x. x.attempts ≡ 0) xs
       → words.rest (words.takes xs s) ≡ words.rest s
   pub attempts : (s : H) → (words.holdings s).attempts ≡ (words.holdings (words.rest s)).attempts

@@ -36,9 +36,9 @@ lent_first others asker t =
 -- ---- the way of attempts
 
 -- Which attempts at parts come through: where there is no loss, every one.
-abbrev pub attempt_comes : (ℕ → ℕ → ℕ → ℕ → ℕ → ℕ → Bool) → ℕ → Option ℕ → Part → ℕ → Bool
-attempt_comes passes asker None t attempt = true
-attempt_comes passes asker (Some loss) t attempt = passes asker t.publisher t.seq t.part attempt loss
+abbrev pub attempt_passes : (ℕ → ℕ → ℕ → ℕ → ℕ → ℕ → Bool) → ℕ → Option ℕ → Part → ℕ → Bool
+attempt_passes passes asker None t attempt = true
+attempt_passes passes asker (Some loss) t attempt = passes asker t.publisher t.seq t.part attempt loss
 
 -- A packet, where the attempt at it comes through.
 abbrev pub if_comes : Bool → Option (List ℕ) → Option (List ℕ)
@@ -49,4 +49,4 @@ if_comes false octets = None
 abbrev pub lent_answer : (ℕ → ℕ → ℕ → ℕ → ℕ → ℕ → Bool) → List MemberState → ℕ → Option ℕ → WantedPart → ℕ
     → Option (List ℕ)
 lent_answer passes others asker loss want attempt =
-    if_comes (attempt_comes passes asker loss want.part attempt) (lent_first others asker want.part)
+    if_comes (attempt_passes passes asker loss want.part attempt) (lent_first others asker want.part)

@@ -1,4 +1,4 @@
--- What a member's catalogue comes to.
+-- The totals of a member's catalogue.
 use Rattle.std.specs.Prelude.{◌<◌, ◌^◌}
 use Rattle.group_model.specs.Replies.{CatalogueTotals}
 use Rattle.group_model.specs.Steps.{catalogue_totals}

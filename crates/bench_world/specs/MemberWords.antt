@@ -3,14 +3,14 @@ use Rattle.std.specs.Prelude.{[]}
 use Rattle.sorted_lists.specs.SortedList.{keys}
 use Rattle.repo_member.specs.MemberState.{MemberState, member_holdings, member_takes}
 use Rattle.repo_member.specs.ConsistentMembers.{IsConsistentMember}
-use Rattle.bench_world.specs.Holders.{HolderWords}
+use Rattle.bench_world.specs.Holders.{HolderPredicates}
 
 -- What the words of holders mean for members.
-abbrev pub member_words : HolderWords MemberState
+abbrev pub member_words : HolderPredicates MemberState
 member_words = record {
   holdings = member_holdings;
   held = λ a. keys a.store;
   rest = λ a. record a { store = [] };
   takes = member_takes;
-  is_true = IsConsistentMember;
+  is_consistent = IsConsistentMember;
 }

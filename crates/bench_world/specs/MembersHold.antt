@@ -15,11 +15,11 @@ use Rattle.repo_member.specs.ConsistentChanges.{IsConsistentArrival}
 use Rattle.repo_member.proofs.PublicLaws.{member_is_holder, members_take_all, fetched_are_stored}
 use Rattle.repo_member.proofs.PublicLaws.{consistent_is_member_state}
 use Rattle.repo_member.proofs.PublicLaws.{takes_consistent}
-use Rattle.bench_world.specs.Holders.{AreHolders, CameForHolder, CameToNothing}
+use Rattle.bench_world.specs.Holders.{AreHolders, FetchForHolder, FetchedNothing}
 use Rattle.bench_world.specs.MemberWords.{member_words}
 
 -- What came is what a member takes.
-arrives : (g : GroupKeys) (logs : Logs) (a : MemberState) (x : Fetched) → CameForHolder g logs (member_holdings a) x
+arrives : (g : GroupKeys) (logs : Logs) (a : MemberState) (x : Fetched) → FetchForHolder g logs (member_holdings a) x
     → IfSome x.packet (IsConsistentArrival g logs a x.part)
 arrives g logs a x came = go x.packet came.packet where
   go : (o : Option (List ℕ)) → IfSome o (λ octets. published_packet g logs x.part ≡ Some octets)
@@ -28,10 +28,10 @@ arrives g logs a x came = go x.packet came.packet where
   go (Some octets) h = record { unclaimed = came.unclaimed; packet = h }
 
 -- Where nothing came, nothing is taken.
-takes_nothing : (xs : List Fetched) (a : MemberState) → All CameToNothing xs → member_takes xs a ≡ a
+takes_nothing : (xs : List Fetched) (a : MemberState) → All FetchedNothing xs → member_takes xs a ≡ a
 takes_nothing [] a none = refl
 takes_nothing (x ∷ xs) a none =
-    let one : CameToNothing x = none 0 x (omega arith) in
+    let one : FetchedNothing x = none 0 x (omega arith) in
     ap (member_takes xs)
     (λ i. record a {
       store = with_fetched x.part (one.packet i) a.store;

@@ -8,7 +8,7 @@ use Rattle.repo_plan.specs.Parts.{part_cmp, pair_of}
 use Rattle.repo_plan.specs.Plan.{wanted}
 use Rattle.group_model.specs.Member.{tries_of, with_each_tried}
 use Rattle.group_model.specs.World.{World, logs, someone_holds}
-use Rattle.repo_mirror.specs.Asked.{is_kept}
+use Rattle.repo_mirror.specs.Asked.{is_for}
 use Rattle.repo_mirror.specs.Mirrors.{mirror_plan, mirror_holds, IsWantedByMirror}
 use Rattle.repo_mirror.specs.MirrorState.{MirrorState}
 use Rattle.repo_mirror.specs.ConsistentMirrors.{mirror_in_group}
@@ -42,7 +42,7 @@ module _ (passes : ℕ → ℕ → ℕ → ℕ → ℕ → ℕ → Bool) (w : Wo
   -- which it passes over and never asks for again.
   abbrev pub mirror_counts : MirrorState → List Part
   mirror_counts m =
-      filter (λ t. is_kept m.pattern (logs w) (pair_of t) || not (is_some (mirror_attempt m t)))
+      filter (λ t. is_for m.pattern (logs w) (pair_of t) || not (is_some (mirror_attempt m t)))
       (mirror_asks w m)
 
   -- The parts that a mirror wants are just those that it is to want, and just those of them that came are held too.

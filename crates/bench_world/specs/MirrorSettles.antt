@@ -9,7 +9,7 @@ use Rattle.group_model.specs.Publications.{join_of}
 use Rattle.group_model.specs.World.{World, logs}
 use Rattle.group_model.specs.Steps.{settled_vector}
 use Rattle.repo_mirror.specs.Mirrors.{mirror_holds, ComeInTurn, is_entry_accepted, path_to}
-use Rattle.repo_mirror.specs.MirrorLaws.{GainsThose, HasComeToRest, learns_all}
+use Rattle.repo_mirror.specs.MirrorLaws.{GainsThose, WantsNothingHeld, learns_all}
 use Rattle.repo_member.specs.Groups.{GroupKeys}
 use Rattle.repo_mirror.specs.MirrorState.{MirrorState}
 use Rattle.repo_mirror.specs.ConsistentMirrors.{mirror_in_group, IsConsistentMirror}
@@ -24,7 +24,7 @@ pub record HasSettled (w : World) (old new : MirrorState) : Type 0 where
   pub known : new.known ≡ join old.known (settled_vector w)
   pub kept : (t : Part) → mirror_holds (mirror_in_group old) t ≡ true → mirror_holds (mirror_in_group new) t ≡ true
   pub gains : GainsThose old.pattern (logs w) w.members (learns_all w (mirror_in_group old)) (mirror_in_group new)
-  pub rest : HasComeToRest old.pattern (logs w) w.members (mirror_in_group new)
+  pub rest : WantsNothingHeld old.pattern (logs w) w.members (mirror_in_group new)
 
 -- Every mirror has settled.
 abbrev pub HaveSettled : World → List MirrorState → List MirrorState → Type 0

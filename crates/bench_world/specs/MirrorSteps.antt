@@ -3,9 +3,9 @@ use Rattle.std.specs.Prelude.{ℕ, ◌+◌, Bool, List, [], Some, None, slice_in
 use Rattle.svs_vector.specs.Vectors.{join}
 use Rattle.repo_holdings.specs.Taking.{Fetched}
 use Rattle.repo_member.specs.MemberState.{MemberState}
-use Rattle.repo_mirror.specs.MirrorState.{MirrorState, mirror_opening, mirror_holdings}
+use Rattle.repo_mirror.specs.MirrorState.{MirrorState, initial_mirror, mirror_holdings}
 use Rattle.repo_mirror.specs.Passing.{mirror_takes}
-use Rattle.bench_world.specs.Lending.{attempt_comes}
+use Rattle.bench_world.specs.Lending.{attempt_passes}
 use Rattle.bench_world.specs.Gathering.{next_parts}
 use Rattle.bench_world.specs.Fetching.{fetched_all}
 
@@ -15,7 +15,7 @@ mirror_limit = 4
 
 -- What is found under a number that no mirror has.
 abbrev pub no_mirror : MirrorState
-no_mirror = mirror_opening (record { publisher = None; prefix = [] }) 0
+no_mirror = initial_mirror (record { publisher = None; prefix = [] }) 0
 
 -- The mirror of a number, from 0 on.
 abbrev pub mirror_at : List MirrorState → ℕ → MirrorState
@@ -23,13 +23,13 @@ mirror_at mirrors i = slice_index_or mirrors i no_mirror
 
 -- It hears a vector.
 abbrev pub mirror_learns : List ℕ → MirrorState → MirrorState
-mirror_learns reported m = record m { known = join m.known reported }
+mirror_learns received m = record m { known = join m.known received }
 
 -- What comes of the parts that it asks members for in a fetch. To the network its number is by 16 higher.
 abbrev pub mirror_fetched : (ℕ → ℕ → ℕ → ℕ → ℕ → ℕ → Bool) → List MemberState → (i tries loss : ℕ) → MirrorState
     → List Fetched
 mirror_fetched passes members i tries loss m =
-    fetched_all (attempt_comes passes (16 + i) (Some loss)) members tries (mirror_holdings m)
+    fetched_all (attempt_passes passes (16 + i) (Some loss)) members tries (mirror_holdings m)
     (next_parts None (mirror_holdings m))
 
 -- It takes that.

@@ -8,7 +8,7 @@ use Rattle.repo_mirror.specs.MirrorState.{MirrorState, mirror_holdings}
 use Rattle.repo_mirror.specs.Passing.{mirror_takes}
 use Rattle.repo_mirror.specs.ConsistentMirrors.{IsConsistentMirror}
 use Rattle.bench_world.specs.declared.holder.Filtering.{Filtering}
-use Rattle.bench_world.specs.Holders.{HolderWords}
+use Rattle.bench_world.specs.Holders.{HolderPredicates}
 
 -- The parts that it keeps, and the records that it passed over, in order.
 abbrev pub mirror_held : MirrorState → List Part
@@ -19,21 +19,21 @@ abbrev pub mirror_rest : MirrorState → MirrorState
 mirror_rest m = record m { store = []; passed = [] }
 
 -- What the words of holders mean for mirrors.
-abbrev pub state_words : HolderWords MirrorState
+abbrev pub state_words : HolderPredicates MirrorState
 state_words = record {
   holdings = mirror_holdings;
   held = mirror_held;
   rest = mirror_rest;
   takes = mirror_takes;
-  is_true = IsConsistentMirror;
+  is_consistent = IsConsistentMirror;
 }
 
 -- The same of a mirror with its filter.
-abbrev pub mirror_words : {X : Type 0} {f : _} → HolderWords (Filtering X f)
+abbrev pub mirror_words : {X : Type 0} {f : _} → HolderPredicates (Filtering X f)
 mirror_words = record {
   holdings = λ s. mirror_holdings s.mirror;
   held = λ s. mirror_held s.mirror;
   rest = λ s. record s { mirror = mirror_rest s.mirror };
   takes = λ xs s. record s { mirror = mirror_takes xs s.mirror };
-  is_true = λ g logs s. IsConsistentMirror g logs s.mirror;
+  is_consistent = λ g logs s. IsConsistentMirror g logs s.mirror;
 }

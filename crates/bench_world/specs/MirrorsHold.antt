@@ -23,15 +23,15 @@ use Rattle.group_model.proofs.Members.{known_published}
 use Rattle.repo_mirror.specs.Mirrors.{mirror_holds}
 use Rattle.repo_watch.specs.declared.pattern.Pattern.{Pattern}
 use Rattle.repo_member.specs.Groups.{GroupKeys}
-use Rattle.repo_member.specs.InGroup.{AreLogs, CameConsistently, published_packet, that_came}
+use Rattle.repo_member.specs.InGroup.{AreLogs, IsConsistentFetch, published_packet, parts_fetched}
 use Rattle.repo_member.proofs.PublicLaws.{holders_want_published}
 use Rattle.repo_mirror.specs.MirrorState.{MirrorState, mirror_holdings, fetch_plan}
-use Rattle.repo_mirror.specs.Passing.{is_packet_kept, is_fetched_kept, that_are_kept, not_kept, passed_over}
+use Rattle.repo_mirror.specs.Passing.{is_packet_for, is_fetch_for, fetches_for, not_kept, passed_over}
 use Rattle.repo_mirror.specs.Passing.{mirror_takes}
-use Rattle.repo_mirror.specs.ConsistentMirrors.{mirror_in_group, IsConsistentMirror, CameForMirror}
+use Rattle.repo_mirror.specs.ConsistentMirrors.{mirror_in_group, IsConsistentMirror, FetchForMirror}
 use Rattle.repo_mirror.proofs.PublicLaws.{mirror_is_holder, mirrors_take_consistent}
 use Rattle.bench_world.specs.declared.holder.Filtering.{Filtering}
-use Rattle.bench_world.specs.Holders.{AreHolders, CameForHolder, CameToNothing}
+use Rattle.bench_world.specs.Holders.{AreHolders, FetchForHolder, FetchedNothing}
 use Rattle.bench_world.specs.MirrorWords.{mirror_held, mirror_rest, mirror_words}
 
 -- ---- what a mirror holds
@@ -93,14 +93,14 @@ not_held m t wanted =
 -- What came for a mirror, seen as any holder, came for it as a mirror.
 pub for_mirror : (g : GroupKeys) (logs : Logs) (m : MirrorState) (x : Fetched) → AreLogs g logs
     → IsConsistentMirror g logs m
-    → CameForHolder g logs (mirror_holdings m) x → CameForMirror g logs m x
+    → FetchForHolder g logs (mirror_holdings m) x → FetchForMirror g logs m x
 for_mirror g logs m x are consistent came =
     record { part_wanted = wanted; consistent = go x.packet came.packet } where
       wanted : is_wanted (fetch_plan m) x.part ≡ true
       wanted = (and_parts (is_wanted (fetch_plan m) x.part) _ came.unclaimed).0
 
       go : (o : Option (List ℕ)) → IfSome o (λ octets. published_packet g logs x.part ≡ Some octets)
-          → CameConsistently g logs x.part o
+          → IsConsistentFetch g logs x.part o
       go None h = tt
       go (Some octets) h = record {
         published =
@@ -111,61 +111,61 @@ for_mirror g logs m x are consistent came =
 
 module _ (pattern : Pattern) where
   -- Where nothing came, nothing is passed over, and nothing else changes.
-  kept_one : (x : Fetched) → CameToNothing x → is_fetched_kept pattern x ≡ true
+  kept_one : (x : Fetched) → FetchedNothing x → is_fetch_for pattern x ≡ true
   kept_one x none =
-      ap (λ (o : Option (List ℕ)). unwrap_or (option_map (is_packet_kept pattern x.part) o) true) none.packet
+      ap (λ (o : Option (List ℕ)). unwrap_or (option_map (is_packet_for pattern x.part) o) true) none.packet
 
-  kept_all : (xs : List Fetched) → All CameToNothing xs → that_are_kept pattern xs ≡ xs
+  kept_all : (xs : List Fetched) → All FetchedNothing xs → fetches_for pattern xs ≡ xs
   kept_all [] none = refl
   kept_all (x ∷ xs) none =
-      ap (λ (b : Bool). cond b (x ∷ that_are_kept pattern xs) (that_are_kept pattern xs))
+      ap (λ (b : Bool). cond b (x ∷ fetches_for pattern xs) (fetches_for pattern xs))
       (kept_one x (none 0 x (omega arith)))
       ∙ ap (λ (ys : List Fetched). x ∷ ys) (kept_all xs (λ k d l. none (suc k) d (omega (arith, l))))
 
-  none_passed : (xs : List Fetched) → All CameToNothing xs → not_kept pattern xs ≡ []
+  none_passed : (xs : List Fetched) → All FetchedNothing xs → not_kept pattern xs ≡ []
   none_passed [] none = refl
   none_passed (x ∷ xs) none =
       ap (λ (b : Bool). map (λ (y : Fetched). pair_of y.part)
-      (cond (not b) (x ∷ filter (λ y. not (is_fetched_kept pattern y)) xs)
-      (filter (λ y. not (is_fetched_kept pattern y)) xs))) (kept_one x (none 0 x (omega arith)))
+      (cond (not b) (x ∷ filter (λ y. not (is_fetch_for pattern y)) xs)
+      (filter (λ y. not (is_fetch_for pattern y)) xs))) (kept_one x (none 0 x (omega arith)))
       ∙ none_passed xs (λ k d l. none (suc k) d (omega (arith, l)))
 
   -- Where no attempt is counted, none is.
   no_tries : (xs : List Fetched) (ns : List (Part × ℕ)) → All (λ (x : Fetched). x.attempts ≡ 0) xs
-      → with_all_tries (that_are_kept pattern xs) ns ≡ ns
+      → with_all_tries (fetches_for pattern xs) ns ≡ ns
   no_tries [] ns none = refl
   no_tries (x ∷ xs) ns none =
-      go (is_fetched_kept pattern x) (no_tries xs ns (λ k d l. none (suc k) d (omega (arith, l)))) where
+      go (is_fetch_for pattern x) (no_tries xs ns (λ k d l. none (suc k) d (omega (arith, l)))) where
         one : x.attempts ≡ 0
         one = none 0 x (omega arith)
 
-        go : (b : Bool) → with_all_tries (that_are_kept pattern xs) ns ≡ ns
-            → with_all_tries (cond b (x ∷ that_are_kept pattern xs) (that_are_kept pattern xs)) ns ≡ ns
-        go true h = ap (λ (n : ℕ). with_all_tries (that_are_kept pattern xs) (with_tries x.part n ns)) one ∙ h
+        go : (b : Bool) → with_all_tries (fetches_for pattern xs) ns ≡ ns
+            → with_all_tries (cond b (x ∷ fetches_for pattern xs) (fetches_for pattern xs)) ns ≡ ns
+        go true h = ap (λ (n : ℕ). with_all_tries (fetches_for pattern xs) (with_tries x.part n ns)) one ∙ h
         go false h = h
 
-nothing_fetched : (xs : List Fetched) (stored : List (Part × List ℕ)) → All CameToNothing xs
+nothing_fetched : (xs : List Fetched) (stored : List (Part × List ℕ)) → All FetchedNothing xs
     → with_all_fetched xs stored ≡ stored
 nothing_fetched [] stored none = refl
 nothing_fetched (x ∷ xs) stored none =
-    let one : CameToNothing x = none 0 x (omega arith) in
+    let one : FetchedNothing x = none 0 x (omega arith) in
     ap (λ (o : Option (List ℕ)). with_all_fetched xs (with_fetched x.part o stored)) one.packet
     ∙ nothing_fetched xs stored (λ k d l. none (suc k) d (omega (arith, l)))
 
-takes_nothing : (xs : List Fetched) (m : MirrorState) → All CameToNothing xs → mirror_takes xs m ≡ m
+takes_nothing : (xs : List Fetched) (m : MirrorState) → All FetchedNothing xs → mirror_takes xs m ≡ m
 takes_nothing xs m none =
-    let stored : with_all_fetched (that_are_kept m.pattern xs) m.store ≡ m.store =
+    let stored : with_all_fetched (fetches_for m.pattern xs) m.store ≡ m.store =
     ap (λ (ys : List Fetched). with_all_fetched ys m.store) (kept_all m.pattern xs none)
     ∙ nothing_fetched xs m.store none in
     let passed : with_hidden (insert_keys pair_cmp (not_kept m.pattern xs) []) m.passed ≡ m.passed =
     ap (λ (ps : List Pair). with_hidden (insert_keys pair_cmp ps []) m.passed) (none_passed m.pattern xs none) in
-    let tried : with_all_tries (that_are_kept m.pattern xs) m.attempts ≡ m.attempts =
+    let tried : with_all_tries (fetches_for m.pattern xs) m.attempts ≡ m.attempts =
     no_tries m.pattern xs m.attempts (λ k d l. (none k d l).attempts) in
     λ i. record m { store = stored i; passed = passed i; attempts = tried i }
 
 -- A consistent mirror that takes what came stays consistent.
 pub mirror_takes_consistently : (g : GroupKeys) (logs : Logs) (xs : List Fetched) (m : MirrorState) → AreLogs g logs
-    → All (CameForHolder g logs (mirror_holdings m)) xs → IsConsistentMirror g logs m
+    → All (FetchForHolder g logs (mirror_holdings m)) xs → IsConsistentMirror g logs m
     → IsConsistentMirror g logs (mirror_takes xs m)
 mirror_takes_consistently g logs xs m are come consistent =
     (mirrors_take_consistent g logs m xs are consistent
@@ -194,7 +194,7 @@ mirrors_hold {X} {f} = record {
       held_is (mirror_takes xs s.mirror) t
       ∙ (mirrors_take_consistent g logs s.mirror xs are consistent
       (λ k d l. for_mirror g logs s.mirror (slice_index_or xs k d) are consistent (come k d l))).held t
-      ∙ ap (λ (b : Bool). contains part_cmp (that_came xs) t || b) (sym (held_is s.mirror t));
+      ∙ ap (λ (b : Bool). contains part_cmp (parts_fetched xs) t || b) (sym (held_is s.mirror t));
   takes_nothing = λ xs s none. ap (λ (m : MirrorState). let t : Filtering X f = record s { mirror = m } in t)
       (takes_nothing xs s.mirror none);
   rest_stays = λ xs s none. ap (λ (ns : List (Part × ℕ)).

@@ -12,7 +12,7 @@ use Rattle.repo_member.specs.ConsistentMembers.{published_packets}
 
 -- The sync Interest that octets are read as, by their verdict.
 abbrev pub read_as : Result (ℕ × List ℕ) SyncRefusal → Option SyncInterest
-read_as (Ok reported) = Some (record { sender = reported.0; vector = reported.1 })
+read_as (Ok received) = Some (record { sender = received.0; vector = received.1 })
 read_as (Err refusal) = None
 
 -- What was found for an Interest: the packet of a part, no packet, or that the octets are no Interest.

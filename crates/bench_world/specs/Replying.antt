@@ -2,12 +2,12 @@
 use Rattle.std.specs.Prelude.{ℕ, Option, Some, None}
 use Rattle.bench_world.specs.declared.answering.Fed.{Fed}
 use Rattle.bench_world.specs.declared.answering.Fed.TheVariants.{Kept, Refused}
-use Rattle.bench_world.specs.EventValues.{Reported}
+use Rattle.bench_world.specs.EventValues.{ReportValue}
 
 -- The report of octets that came for a claim: they are kept, or refused for a reason.
-abbrev pub fed_reply : ℕ → ℕ → Fed → Reported
-fed_reply m f Kept = Reported.FeedKept m f
-fed_reply m f (Refused refusal) = Reported.FeedRefused m f refusal
+abbrev pub fed_reply : ℕ → ℕ → Fed → ReportValue
+fed_reply m f Kept = ReportValue.FeedKept m f
+fed_reply m f (Refused refusal) = ReportValue.FeedRefused m f refusal
 
 -- How many parts come to be held, where so many octets are kept, or none.
 abbrev pub parts_kept : Option ℕ → ℕ

@@ -5,20 +5,20 @@ use Rattle.group_model.specs.Events as group
 use Rattle.group_model.specs.Refusals.{Refusal, refusal, EventsAreTaken}
 use Rattle.group_model.specs.World.{Environment, World, catalogue_at}
 use Rattle.group_model.specs.Steps.{after_event, after_events, after_gathering}
-use Rattle.group_model.specs.Laws.{NothingHidden, NothingWanted, AllJoined, ReportsAll}
+use Rattle.group_model.specs.Laws.{NothingDeleted, NothingWanted, AllJoined, EachHearsAll}
 use Rattle.repo_member.specs.Groups.{GroupKeys}
 use Rattle.bench_world.specs.declared.event.Event.{Event}
 use Rattle.bench_world.specs.declared.event.Happened.{Happened}
 use Rattle.bench_world.specs.declared.event.EventError.{EventError}
 use Rattle.bench_world.specs.declared.event.StepFault.{StepFault}
-use Rattle.bench_world.specs.EventValues.{EventValue, Reported, event_value, group_event, reported_value, event_report}
+use Rattle.bench_world.specs.EventValues.{EventValue, ReportValue, event_value, group_event, report_value, event_report}
 use Rattle.bench_world.specs.Settling.{ArePartlySettled}
 use Rattle.bench_world.specs.Steps.{IsFaultOf, IsStepFaultOf}
 use Rattle.bench_world.specs.Worlds.{GroupState, IsConsistentState, in_groups, world_of}
 
 -- What a settle leaves that wanted memory: it counts as a step, each member has come a part of the way, and nothing
 -- else has changed. The group was true and is, what its members store among it.
-pub record HaveSettledPart (old new : GroupState) : Type 0 where
+pub record HaveSettledPartly (old new : GroupState) : Type 0 where
   pub same : new ≡ record old { members = new.members; steps = old.steps + 1 }
   pub members : ArePartlySettled (world_of old) (in_groups new.members)
   pub begun : IsConsistentState old
@@ -31,32 +31,32 @@ pub record HaveSameMembers (w v : World) : Type 0 where
 
 -- A settle that then succeeds leaves the members that the one that failed would have left.
 abbrev pub GathersAgain : Type 0
-GathersAgain = (out : Environment) (old new : GroupState) → HaveSettledPart old new
-    → HaveSameMembers (after_gathering out (world_of new)) (after_gathering out (world_of old))
+GathersAgain = (env : Environment) (old new : GroupState) → HaveSettledPartly old new
+    → HaveSameMembers (after_gathering env (world_of new)) (after_gathering env (world_of old))
 
 -- So does its step.
 abbrev pub SettlesAgain : Type 0
-SettlesAgain = (out : Environment) (old new : GroupState) → HaveSettledPart old new
-    → HaveSameMembers (after_event out (world_of new) group.Event.Settle)
-    (after_event out (world_of old) group.Event.Settle)
+SettlesAgain = (env : Environment) (old new : GroupState) → HaveSettledPartly old new
+    → HaveSameMembers (after_event env (world_of new) group.Event.Settle)
+    (after_event env (world_of old) group.Event.Settle)
 
 -- All stands as before, but for such a settle.
 abbrev pub StandsAsBefore : EventValue → GroupState → GroupState → Type 0
-StandsAsBefore (EventValue.Settle workers) old new = HaveSettledPart old new
+StandsAsBefore (EventValue.Settle workers) old new = HaveSettledPartly old new
 StandsAsBefore _ old new = new ≡ old
 
 -- After a settle, where nothing is hidden, each catalogue is the join of all publications.
 abbrev pub JoinsAfter : EventValue → World → Type 0
-JoinsAfter (EventValue.Settle workers) w = NothingHidden w → AllJoined w
+JoinsAfter (EventValue.Settle workers) w = NothingDeleted w → AllJoined w
 JoinsAfter _ w = Unit {0}
 
 -- How an event ends, by what may refuse it, the world after it and what is reported: where nothing refuses it, this
 -- world and this report; else why it isn't taken.
-pub record ComesTo (why : Option Refusal) (then : World) (what : Reported) (e : EventValue) (old : GroupState)
+pub record EndsAs (why : Option Refusal) (then : World) (what : ReportValue) (e : EventValue) (old : GroupState)
     (result : Result Happened EventError) (new : GroupState) : Type 0 where
   pub taken : OnOk result (why ≡ None)
   pub world : OnOk result (world_of new ≡ then)
-  pub reported : IfOk result (λ happened. reported_value happened ≡ what)
+  pub report : IfOk result (λ happened. report_value happened ≡ what)
   pub joined : OnOk result (JoinsAfter e (world_of new))
   pub steps : OnOk result (new.steps ≡ old.steps + 1)
   pub keys : new.keys ≡ old.keys
@@ -66,10 +66,10 @@ pub record ComesTo (why : Option Refusal) (then : World) (what : Reported) (e : 
 
 -- A step is what the model makes of the world, reports and refuses.
 abbrev pub IsStep : Environment → EventValue → GroupState → Result Happened EventError → GroupState → Type 0
-IsStep out e old result new =
-    ComesTo (refusal out (world_of old) (group_event old.keys e))
-    (after_event out (world_of old) (group_event old.keys e))
-    (event_report old.keys out (world_of old) e) e old result new
+IsStep env e old result new =
+    EndsAs (refusal env (world_of old) (group_event old.keys e))
+    (after_event env (world_of old) (group_event old.keys e))
+    (event_report old.keys env (world_of old) e) e old result new
 
 -- ---- lists of events
 
@@ -82,20 +82,20 @@ abbrev pub group_events : GroupKeys → List EventValue → List group.Event
 group_events g events = map (group_event g) events
 
 -- The events before that of this number were carried out, each a step, and left this group; then came the fault.
-pub record IsStopped (out : Environment) (begun : GroupState) (events : List EventValue) (k : ℕ) (reported : StepFault)
+pub record IsStopped (env : Environment) (begun : GroupState) (events : List EventValue) (k : ℕ) (received : StepFault)
     (new : GroupState) : Type 0 where
   pub inside : k < length events
-  pub taken : EventsAreTaken out (world_of begun) (group_events begun.keys (take k events))
+  pub taken : EventsAreTaken env (world_of begun) (group_events begun.keys (take k events))
   pub before : GroupState
   pub steps : before.steps ≡ begun.steps + k
   pub keys : before.keys ≡ begun.keys
-  pub world : world_of before ≡ after_events out (world_of begun) (group_events begun.keys (take k events))
+  pub world : world_of before ≡ after_events env (world_of begun) (group_events begun.keys (take k events))
   pub stands : StandsAsBefore (slice_index_or events k EventValue.Traffic) before new
   pub because : IsStepFaultOf
-      (refusal out (world_of before) (group_event begun.keys (slice_index_or events k EventValue.Traffic))) reported
+      (refusal env (world_of before) (group_event begun.keys (slice_index_or events k EventValue.Traffic))) received
 
 -- Where the later events publish nothing and tell each member of all that each other has published, and nothing is
 -- wanted or hidden in the end, each catalogue is the join of all publications.
 abbrev pub ListLawFrom : Environment → World → List group.Event → World → Type 0
-ListLawFrom out w events last = (first later : List group.Event) → events ≡ first ++ later
-    → ReportsAll out (after_events out w first) later → NothingHidden last → NothingWanted last → AllJoined last
+ListLawFrom env w events last = (first later : List group.Event) → events ≡ first ++ later
+    → EachHearsAll env (after_events env w first) later → NothingDeleted last → NothingWanted last → AllJoined last

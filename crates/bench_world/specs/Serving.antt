@@ -8,8 +8,8 @@ use Rattle.repo_plan.specs.declared.part.Part.{Part}
 use Rattle.repo_object.specs.Verdict.{ring_verdict}
 use Rattle.repo_store.specs.Served.{served}
 use Rattle.group_model.specs.Publications.{Logs}
-use Rattle.group_model.specs.Events.{Came}
-use Rattle.group_model.specs.Events.Came.{Nothing, Its, Another}
+use Rattle.group_model.specs.Events.{Response}
+use Rattle.group_model.specs.Events.Response.{Nothing, Its, Another}
 use Rattle.group_model.specs.World.{Environment}
 use Rattle.repo_member.specs.Groups.{GroupKeys}
 use Rattle.repo_member.specs.InGroup.{published_packet}
@@ -17,16 +17,16 @@ use Rattle.repo_member.specs.ConsistentMembers.{published_want, published_packet
 use Rattle.bench_world.specs.Sizes.{size_of}
 
 -- What octets are as a packet of a published part.
-abbrev pub octets_as : GroupKeys → Logs → Part → List ℕ → Came
-octets_as g logs t octets =
+abbrev pub octets_response : GroupKeys → Logs → Part → List ℕ → Response
+octets_response g logs t octets =
     if is_ok (ring_verdict (published_want g logs t) g.members.ring octets)
     then if bytes_eq octets (unwrap_or (published_packet g logs t) []) then Its else Another
     else Nothing
 
 -- What a packet is for a claimed part: its packet, another one that passes, or nothing.
-abbrev pub judged_packet : GroupKeys → Logs → Part → Option (List ℕ) → Came
-judged_packet g logs t None = Nothing
-judged_packet g logs t (Some octets) = octets_as g logs t octets
+abbrev pub packet_response : GroupKeys → Logs → Part → Option (List ℕ) → Response
+packet_response g logs t None = Nothing
+packet_response g logs t (Some octets) = octets_response g logs t octets
 
 -- The packet that is served, if there is one.
 abbrev pub found : Result (Option (List ℕ)) PacketFault → Option (List ℕ)
@@ -34,8 +34,8 @@ found (Ok packet) = packet
 found (Err fault) = None
 
 -- What a member that holds these parts gives to one that asks for a part.
-abbrev pub came_of : GroupKeys → Logs → List Part → Part → Came
-came_of g logs held t = judged_packet g logs t (found
+abbrev pub holder_packet_response : GroupKeys → Logs → List Part → Part → Response
+holder_packet_response g logs held t = packet_response g logs t (found
     (served (published_want g logs t).interest (published_packets g logs held)))
 
 -- What isn't the group's to say, with what its keys and publications make of it.
@@ -43,10 +43,10 @@ abbrev pub environment : GroupKeys → (ℕ → ℕ → ℕ) → (ℕ → ℕ �
 environment g draw passes = record {
   draw = draw;
   passes = λ j t attempt loss. passes j t.publisher t.seq t.part attempt loss;
-  serves = came_of g;
+  serves = holder_packet_response g;
   size = size_of g;
 }
 
 -- The same where neither draws nor the network matter.
-abbrev pub keyed : GroupKeys → Environment
-keyed g = environment g (λ _ _. 0) (λ _ _ _ _ _ _. true)
+abbrev pub lossless : GroupKeys → Environment
+lossless g = environment g (λ _ _. 0) (λ _ _ _ _ _ _. true)

@@ -15,12 +15,12 @@ use Rattle.bench_world.specs.Worlds.{state_at, in_groups, AllCountsStay, AreCons
 use Rattle.bench_world.specs.declared.sync_exchange.MemberSync.{MemberSync}
 
 -- What a member tells, as it is kept.
-abbrev pub reported_of : MemberSync → SentPacket
-reported_of t = sent_packet t.sender t.vector.items t.octets.items
+abbrev pub sent_sync : MemberSync → SentPacket
+sent_sync t = sent_packet t.sender t.vector.items t.octets.items
 
 -- How many parts come to all members, and how many octets, where each part counts as `weight` says.
-abbrev pub gain_sum : (Part → ℕ) → World → List Member → ℕ
-gain_sum weight w ms = sum_by (λ m. sum_by weight (new_parts w m)) ms
+abbrev pub new_parts_sum : (Part → ℕ) → World → List Member → ℕ
+new_parts_sum weight w ms = sum_by (λ m. sum_by weight (new_parts w m)) ms
 
 -- ---- where memory was wanting
 
@@ -57,7 +57,7 @@ pub record AreGathering (g : GroupKeys) (w : World) (begun members : List Member
   pub counts : AllCountsStay begun members
 
 -- The first so many have gathered, and the others not yet.
-pub record GatheredSoFar (g : GroupKeys) (w : World) (begun : List MemberState) (j : ℕ) (members : List MemberState) :
+pub record FetchedSoFar (g : GroupKeys) (w : World) (begun : List MemberState) (j : ℕ) (members : List MemberState) :
     Type 0 where
   pub all : AreGathering g w begun members
   pub done : (i : ℕ) → i < j → in_group (state_at members i) ≡ settled_member w (member w i)

@@ -16,7 +16,7 @@ use Rattle.bench_world.specs.declared.event.EventError.{EventError}
 use Rattle.bench_world.specs.declared.event.EventError.TheVariants as fault
 use Rattle.bench_world.specs.declared.event.StepFault.{StepFault}
 use Rattle.bench_world.specs.declared.event.StepFault.TheVariants as step
-use Rattle.bench_world.specs.EventValues.{EventValue, Reported}
+use Rattle.bench_world.specs.EventValues.{EventValue, ReportValue}
 
 -- There are so many members; the members and fetchers that an event names are there, and what is said is within its
 -- limits.
@@ -70,7 +70,7 @@ fault_of Refusal.NoSuchNumber = fault.NoSuchNumber
 abbrev pub IsFaultOf : Option Refusal → EventError → Type 0
 IsFaultOf refusal fault.NoMemory = Unit {0}
 IsFaultOf None _ = ⊥
-IsFaultOf (Some refusal) reported = reported ≡ fault_of refusal
+IsFaultOf (Some refusal) received = received ≡ fault_of refusal
 
 -- Why a step was not made, by why its event was not carried out: a refusal has the number that the report prints.
 abbrev pub step_fault : EventError → StepFault
@@ -105,50 +105,50 @@ SyncNamesMember n _ = Unit {0}
 -- Where the refusal of octets that are heard names a member, this is one of so many. Memory didn't run out.
 abbrev pub HearNamesMember : ℕ → HearRefusal → Type 0
 HearNamesMember n (hear.Sync refusal) = SyncNamesMember n refusal
-HearNamesMember n (hear.OwnNumberAhead own reported) = Unit {0}
+HearNamesMember n (hear.OwnNumberAhead own received) = Unit {0}
 HearNamesMember n hear.NoMemory = ⊥
 
 -- Each number that stands for a member is that of one of so many. Where all are named, they stand in order, each
 -- with a number, or with its sums.
-abbrev pub NamesAll : ℕ → Reported → Type 0
-NamesAll n Reported.Nothing = Unit {0}
-NamesAll n (Reported.Publish m seq segments sync) = m < n
-NamesAll n (Reported.Withdraw m seq withdrawn sync) = m < n
-NamesAll n (Reported.DeliverSteady k m) = m < n
-NamesAll n (Reported.DeliverSuppressed k m) = m < n
-NamesAll n (Reported.Sync k octets) = Unit {0}
-NamesAll n (Reported.Advance now) = Unit {0}
-NamesAll n (Reported.FireEarly m) = m < n
-NamesAll n (Reported.FireQuiet m) = m < n
-NamesAll n (Reported.FireSent m k) = m < n
-NamesAll n (Reported.Restart m) = m < n
-NamesAll n (Reported.Vector m members numbers) = (members ≡ numbers_from 0 n) × (length numbers ≡ n) × (m < n)
-NamesAll n (Reported.Catalogue m count entries) = (m < n) × All (λ e. e.publisher < n) entries
-NamesAll n (Reported.ClaimPart m f publisher seq x) = (m < n) × (publisher < n)
-NamesAll n (Reported.ClaimNone m f) = m < n
-NamesAll n (Reported.Lose m f publisher seq x) = (m < n) × (publisher < n)
-NamesAll n (Reported.AnswerKept m f) = m < n
-NamesAll n (Reported.AnswerNone m f) = m < n
-NamesAll n (Reported.Fetch m planned kept attempts) = m < n
-NamesAll n (Reported.Settle syncs kept) = Unit {0}
-NamesAll n (Reported.DumpHex m octets) = m < n
-NamesAll n (Reported.DumpNone m) = m < n
-NamesAll n (Reported.HearSteady m) = m < n
-NamesAll n (Reported.HearSuppressed m) = m < n
-NamesAll n (Reported.HearRefused m refusal) = (m < n) × HearNamesMember n refusal
-NamesAll n (Reported.AskFound m octets) = m < n
-NamesAll n (Reported.AskNone m) = m < n
-NamesAll n (Reported.AskRefused m refusal) = m < n
-NamesAll n (Reported.FeedKept m f) = m < n
-NamesAll n (Reported.FeedRefused m f refusal) = m < n
-NamesAll n (Reported.Order m code process inserted deleted) = m < n
-NamesAll n (Reported.Insert m code process inserted deleted) = m < n
-NamesAll n (Reported.Status m code process inserted deleted) = m < n
-NamesAll n (Reported.Delete m code process inserted deleted) = m < n
-NamesAll n (Reported.Block300 m) = m < n
-NamesAll n (Reported.Block404 m) = m < n
-NamesAll n (Reported.Block200 m) = m < n
-NamesAll n (Reported.BlockPublished m seq sync) = m < n
-NamesAll n (Reported.Summary members entries segments octets) =
+abbrev pub NamesAll : ℕ → ReportValue → Type 0
+NamesAll n ReportValue.Nothing = Unit {0}
+NamesAll n (ReportValue.Publish m seq segments sync) = m < n
+NamesAll n (ReportValue.Withdraw m seq withdrawn sync) = m < n
+NamesAll n (ReportValue.DeliverSteady k m) = m < n
+NamesAll n (ReportValue.DeliverSuppressed k m) = m < n
+NamesAll n (ReportValue.Sync k octets) = Unit {0}
+NamesAll n (ReportValue.Advance now) = Unit {0}
+NamesAll n (ReportValue.FireEarly m) = m < n
+NamesAll n (ReportValue.FireQuiet m) = m < n
+NamesAll n (ReportValue.FireSent m k) = m < n
+NamesAll n (ReportValue.Restart m) = m < n
+NamesAll n (ReportValue.Vector m members numbers) = (members ≡ numbers_from 0 n) × (length numbers ≡ n) × (m < n)
+NamesAll n (ReportValue.Catalogue m count entries) = (m < n) × All (λ e. e.publisher < n) entries
+NamesAll n (ReportValue.ClaimPart m f publisher seq x) = (m < n) × (publisher < n)
+NamesAll n (ReportValue.ClaimNone m f) = m < n
+NamesAll n (ReportValue.Lose m f publisher seq x) = (m < n) × (publisher < n)
+NamesAll n (ReportValue.AnswerKept m f) = m < n
+NamesAll n (ReportValue.AnswerNone m f) = m < n
+NamesAll n (ReportValue.Fetch m planned kept attempts) = m < n
+NamesAll n (ReportValue.Settle syncs kept) = Unit {0}
+NamesAll n (ReportValue.DumpHex m octets) = m < n
+NamesAll n (ReportValue.DumpNone m) = m < n
+NamesAll n (ReportValue.HearSteady m) = m < n
+NamesAll n (ReportValue.HearSuppressed m) = m < n
+NamesAll n (ReportValue.HearRefused m refusal) = (m < n) × HearNamesMember n refusal
+NamesAll n (ReportValue.AskFound m octets) = m < n
+NamesAll n (ReportValue.AskNone m) = m < n
+NamesAll n (ReportValue.AskRefused m refusal) = m < n
+NamesAll n (ReportValue.FeedKept m f) = m < n
+NamesAll n (ReportValue.FeedRefused m f refusal) = m < n
+NamesAll n (ReportValue.Order m code process inserted deleted) = m < n
+NamesAll n (ReportValue.Insert m code process inserted deleted) = m < n
+NamesAll n (ReportValue.Status m code process inserted deleted) = m < n
+NamesAll n (ReportValue.Delete m code process inserted deleted) = m < n
+NamesAll n (ReportValue.Block300 m) = m < n
+NamesAll n (ReportValue.Block404 m) = m < n
+NamesAll n (ReportValue.Block200 m) = m < n
+NamesAll n (ReportValue.BlockPublished m seq sync) = m < n
+NamesAll n (ReportValue.Summary members entries segments octets) =
     (members ≡ numbers_from 0 n) × (length entries ≡ n) × (length segments ≡ n) × (length octets ≡ n)
-NamesAll n (Reported.Traffic syncs delivered attempts parts octets) = Unit {0}
+NamesAll n (ReportValue.Traffic syncs delivered attempts parts octets) = Unit {0}

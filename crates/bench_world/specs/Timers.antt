@@ -3,8 +3,8 @@ use Rattle.std.specs.Prelude.{ℕ, List, [], ◌∷◌, ◌++◌}
 use Rattle.bench_net.specs.SentList.{SentPacket, sent_packet}
 use Rattle.repo_member.specs.declared.member.syncing.Fire.{Fire}
 use Rattle.repo_member.specs.declared.member.syncing.Fire.TheVariants as fire
-use Rattle.bench_world.specs.EventValues.{Reported}
-use Rattle.bench_world.specs.EventValues.Reported.{FireEarly, FireQuiet, FireSent}
+use Rattle.bench_world.specs.EventValues.{ReportValue}
+use Rattle.bench_world.specs.EventValues.ReportValue.{FireEarly, FireQuiet, FireSent}
 
 -- What is sent then, where what the member knows is this vector.
 abbrev pub after_firing : ℕ → List ℕ → Fire → List SentPacket → List SentPacket
@@ -12,8 +12,8 @@ after_firing m vector fire.Early sent = sent
 after_firing m vector fire.Quiet sent = sent
 after_firing m vector (fire.Sent sync) sent = sent ++ sent_packet m vector sync.items ∷ []
 
--- What is reported of it, where the next sync Interest has this number.
-abbrev pub fire_reported : ℕ → ℕ → Fire → Reported
-fire_reported m k fire.Early = FireEarly m
-fire_reported m k fire.Quiet = FireQuiet m
-fire_reported m k (fire.Sent sync) = FireSent m k
+-- The report of it, where the next sync Interest has this number.
+abbrev pub fire_report : ℕ → ℕ → Fire → ReportValue
+fire_report m k fire.Early = FireEarly m
+fire_report m k fire.Quiet = FireQuiet m
+fire_report m k (fire.Sent sync) = FireSent m k

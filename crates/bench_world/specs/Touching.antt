@@ -8,14 +8,14 @@ use Rattle.repo_plan.specs.Parts.{Pair, pair_cmp, pair_of}
 use Rattle.repo_plan.specs.Plan.{holds, hides, knows}
 use Rattle.repo_plan.specs.Leaps.{some_holds}
 use Rattle.repo_holdings.specs.HoldingsState.{held_plan}
-use Rattle.group_model.specs.Member.{Member, member_holds, member_hides}
+use Rattle.group_model.specs.Member.{Member, member_holds, has_deleted}
 use Rattle.group_model.specs.World.{no_member, someone_holds}
 use Rattle.repo_member.specs.declared.member.block.Blocked.{Blocked}
 use Rattle.repo_member.specs.declared.member.block.Blocked.TheVariants as blocked
 use Rattle.repo_member.specs.MemberState.{MemberState, member_plan}
 use Rattle.bench_world.specs.declared.touched.Touched.{Touched}
 use Rattle.bench_world.specs.Lending.{lends}
-use Rattle.bench_world.specs.Holders.{HolderWords, has}
+use Rattle.bench_world.specs.Holders.{HolderPredicates, has}
 
 -- Whether the publication is one of these.
 abbrev pub touches : Touched → Pair → Bool
@@ -54,7 +54,7 @@ lend_touched members n t = one_holds members t && touches n (pair_of t)
 
 -- ---- what nobody lacks
 
-module _ {H : Type 0} (words : HolderWords H) where
+module _ {H : Type 0} (words : HolderPredicates H) where
   -- Of publications that it knows and that weren't touched, a holder has every part that the others store, but where it
   -- hides the publication.
   abbrev pub LacksOnlyTouched : Touched → List MemberState → H → Type 0
@@ -67,7 +67,7 @@ module _ {H : Type 0} (words : HolderWords H) where
 abbrev pub MemberLacksNone : Touched → (Part → Bool) → Member → Type 0
 MemberLacksNone n held m =
     (t : Part) → held t ≡ true → touches n (pair_of t) ≡ false
-    → (member_holds m t ≡ true) ⊎ (member_hides m (pair_of t) ≡ true)
+    → (member_holds m t ≡ true) ⊎ (has_deleted m (pair_of t) ≡ true)
 
 -- The same of all members.
 abbrev pub NoneLacks : Touched → List Member → Type 0

@@ -8,12 +8,12 @@ use Rattle.bench_net.specs.SentList.{SentPacket, sent_packet}
 use Rattle.group_model.specs.Publications.{Logs}
 use Rattle.group_model.specs.Member.{Member, tries_of}
 use Rattle.group_model.specs.Events.{SyncInterest}
-use Rattle.group_model.specs.Events.Came.{Nothing}
+use Rattle.group_model.specs.Events.Response.{Nothing}
 use Rattle.group_model.specs.Sound.{IsConsistentVector}
 use Rattle.group_model.specs.Limits.{IsWithinSteps}
 use Rattle.group_model.specs.World.{Tally, Issued, World, Environment, logs_of}
 use Rattle.repo_member.specs.Groups.{GroupKeys}
-use Rattle.repo_member.specs.MemberState.{MemberState, no_insertions, member_opening}
+use Rattle.repo_member.specs.MemberState.{MemberState, no_insertions, initial_member}
 use Rattle.repo_member.specs.Verdicts.{sync_of}
 use Rattle.repo_member.specs.InGroup.{in_group, AreLogs}
 use Rattle.repo_member.specs.ConsistentMembers.{IsConsistentMember}
@@ -135,7 +135,7 @@ drawing draw = record { draw = draw; passes = λ _ _ _ _. true; serves = λ _ _ 
 
 -- Members that have nothing yet.
 abbrev pub begun_one : ℕ → (ℕ → ℕ → ℕ) → ℕ → MemberState
-begun_one n draw j = member_opening n j 0 (draw j 0)
+begun_one n draw j = initial_member n j 0 (draw j 0)
 
 -- So many members that have nothing yet.
 abbrev pub begun_all : ℕ → (ℕ → ℕ → ℕ) → List MemberState

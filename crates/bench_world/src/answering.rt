@@ -5,14 +5,15 @@ ghost use Rattle.std.specs.Str.{bytes_eq};
 ghost use Rattle.repo_plan.specs.Plan.{claim_of};
 ghost use Rattle.repo_store.specs.Served.{served};
 ghost use Rattle.group_model.specs.Publications.{Logs};
-ghost use Rattle.group_model.specs.Events.Came.{Another};
+ghost use Rattle.group_model.specs.Events.Response.{Another};
 ghost use Rattle.repo_member.specs.MemberState.{member_plan};
 ghost use Rattle.repo_member.specs.InGroup.{published_packet};
 ghost use Rattle.repo_member.specs.ConsistentMembers.{published_want};
 ghost use Rattle.bench_world.specs.Conditions.{CanCompare, CanWant, CanAccept, CanGetAt, CanAnswerAt};
 ghost use Rattle.bench_world.specs.Worlds.{state_at};
-ghost use Rattle.bench_world.specs.Serving.{octets_as, judged_packet, found};
-ghost use Rattle.bench_world.specs.Answering.{answered, claim_in, came_in, came_for, lender_of, fed_as, kept_of};
+ghost use Rattle.bench_world.specs.Serving.{octets_response, packet_response, found};
+ghost use Rattle.bench_world.specs.Answering.{answered, claim_in, holder_response, outside_response, lender_of, fed_as};
+ghost use Rattle.bench_world.specs.Answering.{kept_of};
 ghost use Rattle.bench_world.specs.Answering.{accepts_claimed, after_claimed};
 
 use crate::event::EventError;
@@ -79,11 +80,11 @@ fn accept(
     requires { CanAccept g.now logs f want.now publisher.now asker.old }
     ensures fed { IfOk result (λ fed. fed ≡ fed_as g.now logs octets.now want.now.part) }
     ensures asker { OnOk result (asker.new ≡ accepts_claimed g.now logs f want.now.part
-        (octets_as g.now logs want.now.part octets.now) asker.old) }
+        (octets_response g.now logs want.now.part octets.now) asker.old) }
     ensures kept { IfOk result (λ fed. answered g.now logs (Some want.now.part)
-        (octets_as g.now logs want.now.part octets.now) ≡ Ok (kept_of octets.now fed)) }
+        (octets_response g.now logs want.now.part octets.now) ≡ Ok (kept_of octets.now fed)) }
     ensures foreign { IfErr result (λ fault. (fault ≡ EventError.NoMemory)
-        ⊎ ((fault ≡ EventError.Foreign) × (octets_as g.now logs want.now.part octets.now ≡ Another))) }
+        ⊎ ((fault ≡ EventError.Foreign) × (octets_response g.now logs want.now.part octets.now ≡ Another))) }
     ensures err { OnErr result (asker.new ≡ asker.old) }
 {
     let checked = match check_part(want, octets, g.members()) {
@@ -122,12 +123,12 @@ fn accept_served(
     ghost logs: { Logs }
     requires { CanAccept g.now logs f want.now publisher.now asker.old }
     ensures kept { IfOk result (λ kept. answered g.now logs (Some want.now.part)
-        (judged_packet g.now logs want.now.part (option_map (λ octets. octets.now) packet.entry)) ≡ Ok kept) }
+        (packet_response g.now logs want.now.part (option_map (λ octets. octets.now) packet.entry)) ≡ Ok kept) }
     ensures asker { OnOk result (asker.new ≡ accepts_claimed g.now logs f want.now.part
-        (judged_packet g.now logs want.now.part (option_map (λ octets. octets.now) packet.entry)) asker.old) }
+        (packet_response g.now logs want.now.part (option_map (λ octets. octets.now) packet.entry)) asker.old) }
     ensures refused { IfErr result (λ fault. (fault ≡ EventError.NoMemory)
         ⊎ (answered g.now logs (Some want.now.part)
-        (judged_packet g.now logs want.now.part (option_map (λ octets. octets.now) packet.entry)) ≡ Err fault)) }
+        (packet_response g.now logs want.now.part (option_map (λ octets. octets.now) packet.entry)) ≡ Err fault)) }
     ensures err { OnErr result (asker.new ≡ asker.old) }
 {
     let Some(octets) = packet else {
@@ -152,15 +153,16 @@ fn answer_from(
 ) -> Result<Option<u64>, EventError>
     ghost logs: { Logs }
     requires { CanAccept g.now logs f want.now publisher.now asker.old }
-    ensures kept { IfOk result (λ kept. answered g.now logs (Some want.now.part) (judged_packet g.now logs want.now.part
+    ensures kept { IfOk result
+        (λ kept. answered g.now logs (Some want.now.part) (packet_response g.now logs want.now.part
         (found (served want.now.interest (lender_of asker.old (option_map (λ a. a.now) lender.entry)).store)))
         ≡ Ok kept) }
     ensures asker { OnOk result
-        (asker.new ≡ accepts_claimed g.now logs f want.now.part (judged_packet g.now logs want.now.part
+        (asker.new ≡ accepts_claimed g.now logs f want.now.part (packet_response g.now logs want.now.part
         (found (served want.now.interest (lender_of asker.old (option_map (λ a. a.now) lender.entry)).store)))
         asker.old) }
     ensures refused { IfErr result (λ fault. (fault ≡ EventError.NoMemory)
-        ⊎ (answered g.now logs (Some want.now.part) (judged_packet g.now logs want.now.part
+        ⊎ (answered g.now logs (Some want.now.part) (packet_response g.now logs want.now.part
         (found (served want.now.interest (lender_of asker.old (option_map (λ a. a.now) lender.entry)).store)))
         ≡ Err fault)) }
     ensures err { OnErr result (asker.new ≡ asker.old) }
@@ -188,14 +190,15 @@ pub(crate) fn answer(
     ghost logs: { Logs }
     requires { CanAnswerAt g.now logs f m q members.old.items }
     ensures kept { IfOk result (λ kept. answered g.now logs (claim_in members.old.items m f)
-        (came_in g.now logs members.old.items q (claim_in members.old.items m f)) ≡ Ok kept) }
+        (holder_response g.now logs members.old.items q (claim_in members.old.items m f)) ≡ Ok kept) }
     ensures members { OnOk result (members.new.items ≡ slice_set members.old.items m
         (after_claimed g.now logs f (claim_in members.old.items m f)
-        (came_in g.now logs members.old.items q (claim_in members.old.items m f)) (state_at members.old.items m))) }
+        (holder_response g.now logs members.old.items q (claim_in members.old.items m f))
+        (state_at members.old.items m))) }
     ensures idle { (result ≡ Err EventError.FetcherIdle) ↔ (claim_in members.old.items m f ≡ None) }
     ensures refused { IfErr result (λ fault. (fault ≡ EventError.NoMemory)
         ⊎ (answered g.now logs (claim_in members.old.items m f)
-        (came_in g.now logs members.old.items q (claim_in members.old.items m f)) ≡ Err fault)) }
+        (holder_response g.now logs members.old.items q (claim_in members.old.items m f)) ≡ Err fault)) }
     ensures err { OnErr result (members.new.items ≡ members.old.items) }
 {
     let want = want_for(alloc, g, &members[m as usize], f)?;
@@ -224,14 +227,14 @@ pub(crate) fn feed(
     ensures fed { IfOk result
         (λ fed. option_map (fed_as g.now logs octets.now) (claim_in members.old.items m f) ≡ Some fed) }
     ensures kept { IfOk result (λ fed. answered g.now logs (claim_in members.old.items m f)
-        (came_for g.now logs octets.now (claim_in members.old.items m f)) ≡ Ok (kept_of octets.now fed)) }
+        (outside_response g.now logs octets.now (claim_in members.old.items m f)) ≡ Ok (kept_of octets.now fed)) }
     ensures members { OnOk result (members.new.items ≡ slice_set members.old.items m
         (after_claimed g.now logs f (claim_in members.old.items m f)
-        (came_for g.now logs octets.now (claim_in members.old.items m f)) (state_at members.old.items m))) }
+        (outside_response g.now logs octets.now (claim_in members.old.items m f)) (state_at members.old.items m))) }
     ensures idle { (result ≡ Err EventError.FetcherIdle) ↔ (claim_in members.old.items m f ≡ None) }
     ensures refused { IfErr result (λ fault. (fault ≡ EventError.NoMemory)
         ⊎ (answered g.now logs (claim_in members.old.items m f)
-        (came_for g.now logs octets.now (claim_in members.old.items m f)) ≡ Err fault)) }
+        (outside_response g.now logs octets.now (claim_in members.old.items m f)) ≡ Err fault)) }
     ensures err { OnErr result (members.new.items ≡ members.old.items) }
 {
     let want = want_for(alloc, g, &members[m as usize], f)?;

@@ -140,7 +140,7 @@ pub enum Event {
     Traffic,
 }
 
-/// What is reported of an event.
+/// The report of an event.
 #[derive(Drop)]
 pub enum Happened {
     Publish {

@@ -2,15 +2,15 @@
 ghost use Rattle.std.specs.Prelude.{◌≡◌, ◌≤◌, None, length, map, sum, IfOk, OnOk, OnErr};
 ghost use Rattle.std.specs.List.{sum_by};
 ghost use Rattle.group_model.specs.Publications.{Logs};
-ghost use Rattle.repo_member.specs.InGroup.{that_came};
-ghost use Rattle.bench_world.specs.Lending.{attempt_comes};
+ghost use Rattle.repo_member.specs.InGroup.{parts_fetched};
+ghost use Rattle.bench_world.specs.Lending.{attempt_passes};
 ghost use Rattle.bench_world.specs.Sizes.{size_of};
 ghost use Rattle.bench_world.specs.Conditions.{CanFetch};
 ghost use Rattle.bench_world.specs.Gathering.{next_parts};
 ghost use Rattle.bench_world.specs.Fetching.{fetched_all};
 ghost use Rattle.bench_world.specs.Worlds.{logs_around};
 
-use crate::gather::PHASE_LIMIT;
+use crate::fetch_all::PHASE_LIMIT;
 use crate::holder::Holder;
 use crate::lending::MemberLink;
 use bench_net::Net;
@@ -40,17 +40,17 @@ pub(crate) fn fetch<N: Net + Sync, R: Threads + Sync, H: Holder>(
     ghost logs: { Logs }
     requires { CanFetch H.words g.now logs workers tries link.now.others.now holder.old }
     ensures new { OnOk result (holder.new ≡ H.words.takes (fetched_all
-        (attempt_comes (N.passes link.now.net.now) link.now.asker link.now.loss) link.now.others.now tries
+        (attempt_passes (N.passes link.now.net.now) link.now.asker link.now.loss) link.now.others.now tries
         (H.words.holdings holder.old) (next_parts None (H.words.holdings holder.old))) holder.old) }
     ensures planned { IfOk result (λ r. r.planned ≡ length (next_parts None (H.words.holdings holder.old))) }
-    ensures parts { IfOk result (λ r. r.kept.parts ≡ length (that_came (fetched_all
-        (attempt_comes (N.passes link.now.net.now) link.now.asker link.now.loss) link.now.others.now tries
+    ensures parts { IfOk result (λ r. r.kept.parts ≡ length (parts_fetched (fetched_all
+        (attempt_passes (N.passes link.now.net.now) link.now.asker link.now.loss) link.now.others.now tries
         (H.words.holdings holder.old) (next_parts None (H.words.holdings holder.old))))) }
-    ensures octets { IfOk result (λ r. r.kept.octets ≡ sum_by (size_of g.now logs) (that_came (fetched_all
-        (attempt_comes (N.passes link.now.net.now) link.now.asker link.now.loss) link.now.others.now tries
+    ensures octets { IfOk result (λ r. r.kept.octets ≡ sum_by (size_of g.now logs) (parts_fetched (fetched_all
+        (attempt_passes (N.passes link.now.net.now) link.now.asker link.now.loss) link.now.others.now tries
         (H.words.holdings holder.old) (next_parts None (H.words.holdings holder.old))))) }
     ensures attempts { IfOk result (λ r. r.attempts ≡ sum (map (λ x. x.attempts) (fetched_all
-        (attempt_comes (N.passes link.now.net.now) link.now.asker link.now.loss) link.now.others.now tries
+        (attempt_passes (N.passes link.now.net.now) link.now.asker link.now.loss) link.now.others.now tries
         (H.words.holdings holder.old) (next_parts None (H.words.holdings holder.old))))) }
     ensures err { OnErr result (holder.new ≡ holder.old) }
 {
@@ -85,14 +85,14 @@ pub(crate) fn fetch_of_all<N: Net + Sync, R: Threads + Sync, H: Holder>(
 ) -> Result<(u32, u32, u64), AllocError>
     requires { CanFetch H.words g.now (logs_around link.now.others.now) workers tries link.now.others.now holder.old }
     ensures new { OnOk result (holder.new ≡ H.words.takes (fetched_all
-        (attempt_comes (N.passes link.now.net.now) link.now.asker link.now.loss) link.now.others.now tries
+        (attempt_passes (N.passes link.now.net.now) link.now.asker link.now.loss) link.now.others.now tries
         (H.words.holdings holder.old) (next_parts None (H.words.holdings holder.old))) holder.old) }
     ensures planned { IfOk result (λ r. r.0 ≡ length (next_parts None (H.words.holdings holder.old))) }
-    ensures parts { IfOk result (λ r. r.1 ≡ length (that_came (fetched_all
-        (attempt_comes (N.passes link.now.net.now) link.now.asker link.now.loss) link.now.others.now tries
+    ensures parts { IfOk result (λ r. r.1 ≡ length (parts_fetched (fetched_all
+        (attempt_passes (N.passes link.now.net.now) link.now.asker link.now.loss) link.now.others.now tries
         (H.words.holdings holder.old) (next_parts None (H.words.holdings holder.old))))) }
     ensures attempts { IfOk result (λ r. r.2 ≡ sum (map (λ x. x.attempts) (fetched_all
-        (attempt_comes (N.passes link.now.net.now) link.now.asker link.now.loss) link.now.others.now tries
+        (attempt_passes (N.passes link.now.net.now) link.now.asker link.now.loss) link.now.others.now tries
         (H.words.holdings holder.old) (next_parts None (H.words.holdings holder.old))))) }
     ensures err { OnErr result (holder.new ≡ holder.old) }
 {

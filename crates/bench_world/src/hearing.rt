@@ -6,7 +6,7 @@ ghost use Rattle.svs_sync.specs.Suppression.{mode_of};
 ghost use Rattle.repo_member.specs.Groups.{node_limit};
 ghost use Rattle.repo_member.specs.MemberState.{IsOfGroup, member_hears};
 ghost use Rattle.repo_member.specs.Verdicts.{group_verdict};
-ghost use Rattle.bench_world.specs.Hearing.{reported_sync};
+ghost use Rattle.bench_world.specs.Hearing.{accepted_sync};
 
 use crate::event::EventError;
 use crate::numbers::numbers;
@@ -17,7 +17,7 @@ use svs_sync::{Mode, SyncRefusal, check_sync};
 use svs_vector::Vector;
 
 // Who signed the sync Interest that octets are, and the vector that it tells, where the member takes it.
-pub(crate) fn reported_by(
+pub(crate) fn signed_vector(
     alloc: Global,
     g: &Group,
     member: &Member,
@@ -27,26 +27,26 @@ pub(crate) fn reported_by(
     requires group { IsOfGroup g.now member.now }
     requires number { number ≡ member.now.number }
     requires there { number < length member.now.known }
-    ensures reported { IfOk result (λ reported. reported_sync (length member.now.log) number
+    ensures received { IfOk result (λ received. accepted_sync (length member.now.log) number
         (group_verdict g.now octets.now)
-        ≡ Ok (record { sender = reported.0; vector = reported.1 })) }
-    ensures own { IfOk result (λ reported. slice_index reported.1 member.now.number ≤ length member.now.log) }
-    ensures width { IfOk result (λ reported. length reported.1 ≡ length member.now.known) }
+        ≡ Ok (record { sender = received.0; vector = received.1 })) }
+    ensures own { IfOk result (λ received. slice_index received.1 member.now.number ≤ length member.now.log) }
+    ensures width { IfOk result (λ received. length received.1 ≡ length member.now.known) }
     ensures refused { IfErr result (λ refusal. (refusal ≡ HearRefusal.NoMemory)
-        ⊎ (reported_sync (length member.now.log) number (group_verdict g.now octets.now) ≡ Err refusal)) }
+        ⊎ (accepted_sync (length member.now.log) number (group_verdict g.now octets.now) ≡ Err refusal)) }
 {
-    g.is_sound();
+    g.cite_soundness();
     let (signer, vector) = match check_sync(alloc, octets, g.name(), g.roster(), g.members()) {
-        Ok(reported) => reported,
+        Ok(received) => received,
         Err(SyncRefusal::NoMemory) => return Err(HearRefusal::NoMemory),
         Err(refusal) => return Err(HearRefusal::Sync(refusal)),
     };
     let own = member.log_len();
-    let reported = u32::from(vector.get(number));
-    if reported > own {
+    let received = u32::from(vector.get(number));
+    if received > own {
         return Err(HearRefusal::OwnNumberAhead {
             own,
-            told: reported,
+            told: received,
         });
     }
     Ok((signer, vector))

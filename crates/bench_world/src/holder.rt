@@ -4,9 +4,9 @@ ghost use Rattle.std.specs.List.{All, sum_by};
 ghost use Rattle.std.specs.Thread.{IsSync};
 ghost use Rattle.repo_plan.specs.Leaps.{some_holds};
 ghost use Rattle.repo_holdings.specs.Contents.{IsDigestIn};
-ghost use Rattle.repo_holdings.specs.Taking.{PartsDiffer, with_what_came};
+ghost use Rattle.repo_holdings.specs.Taking.{PartsDiffer, with_fetched_for};
 ghost use Rattle.repo_member.specs.Outcomes.{IsOutcomeOf, jobs_of, job_limit, outcome_of, octets_in};
-ghost use Rattle.bench_world.specs.Holders.{HolderWords, AreHolders, jobs_that};
+ghost use Rattle.bench_world.specs.Holders.{HolderPredicates, AreHolders, jobs_that};
 ghost use Rattle.bench_world.specs.Touching.{lend_touched};
 
 use crate::lenders::Lenders;
@@ -22,7 +22,7 @@ use std::thread::Threads;
 
 /// Who holds parts of a group's publications and plans jobs for more of them: a member, and whoever publishes nothing.
 pub(crate) trait Holder {
-    ghost words: { HolderWords Self };
+    ghost words: { HolderPredicates Self };
 
     /// The least parts that it wants, that no fetcher claims and that are greater than `after`, at most `most` of them,
     /// as jobs whose attempts go on from those that were made.
@@ -114,7 +114,7 @@ impl Holder for Member {
         parts: &[Option<Checked<'_>>],
         attempts: &[u32],
     ) -> Result<FetchCounts, AllocError> {
-        let workers = digest_workers(octets_that_came(parts), workers);
+        let workers = digest_workers(fetched_octets(parts), workers);
         if workers == 1 {
             return self.take_digested(g, jobs, parts, attempts, &[]);
         }
@@ -137,7 +137,7 @@ fn digests_with<R: Threads + Sync>(
     requires workers { (1 ≤ workers) × (workers ≤ 16) }
     requires apart { PartsDiffer (map (λ job. job.want.part) jobs.now) }
     ensures { IfOk result
-        (λ digests. All (IsDigestIn (with_what_came jobs.now parts.now member.now.store)) digests.items) }
+        (λ digests. All (IsDigestIn (with_fetched_for jobs.now parts.now member.now.store)) digests.items) }
 {
     let whole = member.whole_with(alloc, jobs, parts)?;
     digests(rt, alloc, &whole, workers)
@@ -163,7 +163,7 @@ impl<'f> Holder for Filtering<'f> {
         after: Option<Part>,
         most: usize,
     ) -> Result<Vec<Job>, AllocError> {
-        g.is_sound();
+        g.cite_soundness();
         self.mirror.plan(alloc, g.roster(), g.name(), after, most)
     }
 
@@ -175,7 +175,7 @@ impl<'f> Holder for Filtering<'f> {
         after: Option<Part>,
         most: usize,
     ) -> Result<Vec<Job>, AllocError> {
-        g.is_sound();
+        g.cite_soundness();
         self.mirror
             .plan_held(alloc, g.roster(), g.name(), lenders, after, most)
     }
@@ -195,7 +195,7 @@ impl<'f> Holder for Filtering<'f> {
             .take_outcome(self.filter, jobs, parts, attempts)?;
         Ok(FetchCounts {
             parts: kept,
-            octets: octets_that_came(parts),
+            octets: fetched_octets(parts),
         })
     }
 
@@ -203,7 +203,7 @@ impl<'f> Holder for Filtering<'f> {
 }
 
 // How many octets came.
-fn octets_that_came(parts: &[Option<Checked<'_>>]) -> u64
+fn fetched_octets(parts: &[Option<Checked<'_>>]) -> u64
     requires { length parts.now ≤ job_limit }
     ensures { result ≡ sum_by octets_in parts.now }
 {

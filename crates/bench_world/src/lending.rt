@@ -1,6 +1,6 @@
 // Members that lend their packets to one that asks for parts.
 ghost use Rattle.std.specs.Prelude.{◌≡◌, option_map};
-ghost use Rattle.bench_world.specs.Lending.{attempt_comes, if_comes, lent, lent_first};
+ghost use Rattle.bench_world.specs.Lending.{attempt_passes, if_comes, lent, lent_first};
 
 use bench_net::Net;
 use fetch_work::{Lending, Link, Reply};
@@ -46,7 +46,7 @@ impl<'w, N: Net> Link for MemberLink<'w, N> {
 // The packet that comes at an attempt at a part.
 fn came<'a, N: Net>(link: &'a MemberLink<'_, N>, part: Part, attempt: u32) -> Option<&'a Packet>
     ensures { option_map (λ packet. packet.now) result ≡ if_comes
-        (attempt_comes (N.passes link.now.net.now) link.now.asker link.now.loss part attempt)
+        (attempt_passes (N.passes link.now.net.now) link.now.asker link.now.loss part attempt)
         (lent_first link.now.others.now link.now.asker part) }
 {
     if comes_through(link, part, attempt) {
@@ -58,7 +58,7 @@ fn came<'a, N: Net>(link: &'a MemberLink<'_, N>, part: Part, attempt: u32) -> Op
 
 // Whether the attempt at a part comes through.
 fn comes_through<'w, N: Net>(link: &MemberLink<'w, N>, part: Part, attempt: u32) -> bool
-    ensures { result ≡ attempt_comes (N.passes link.now.net.now) link.now.asker link.now.loss part attempt }
+    ensures { result ≡ attempt_passes (N.passes link.now.net.now) link.now.asker link.now.loss part attempt }
 {
     let passes = link.net.passes(
         link.asker,

@@ -1,6 +1,6 @@
 // What a mirror fetches of members.
 ghost use Rattle.std.specs.Prelude.{◌≡◌, None, length, map, sum, slice_set, IfOk, OnOk, OnErr};
-ghost use Rattle.repo_member.specs.InGroup.{that_came};
+ghost use Rattle.repo_member.specs.InGroup.{parts_fetched};
 ghost use Rattle.repo_mirror.specs.MirrorState.{mirror_holdings};
 ghost use Rattle.bench_world.specs.Conditions.{CanFetchFor};
 ghost use Rattle.bench_world.specs.Gathering.{next_parts};
@@ -37,7 +37,7 @@ pub(crate) fn fetch_for<N: Net + Sync, R: Threads + Sync>(
         (mirror_fetches (N.passes net.now) members.now i tries loss (mirror_at mirrors.old.items i))) }
     ensures planned { IfOk result
         (λ r. r.0 ≡ length (next_parts None (mirror_holdings (mirror_at mirrors.old.items i)))) }
-    ensures parts { IfOk result (λ r. r.1 ≡ length (that_came
+    ensures parts { IfOk result (λ r. r.1 ≡ length (parts_fetched
         (mirror_fetched (N.passes net.now) members.now i tries loss (mirror_at mirrors.old.items i)))) }
     ensures attempts { IfOk result (λ r. r.2 ≡ sum (map (λ x. x.attempts)
         (mirror_fetched (N.passes net.now) members.now i tries loss (mirror_at mirrors.old.items i)))) }

@@ -1,15 +1,15 @@
 // What a settle makes of all members.
 ghost use Rattle.std.specs.Prelude.{◌≡◌, ◌+◌, ◌++◌, ◌≤◌, ◌<◌, ◌^◌, ℕ, length, map, IfOk, OnOk, OnErr, vec_len};
 ghost use Rattle.group_model.specs.World.{World, logs};
-ghost use Rattle.group_model.specs.Steps.{settled_member, settle_gains};
+ghost use Rattle.group_model.specs.Steps.{settled_member, settle_new_parts};
 ghost use Rattle.repo_member.specs.MemberState.{member_resets};
 ghost use Rattle.bench_world.specs.Sizes.{size_of};
 ghost use Rattle.bench_world.specs.Conditions.{CanSettle};
 ghost use Rattle.bench_world.specs.Worlds.{state_at, in_groups, tells, AllCountsStay, AreConsistentMembers};
 ghost use Rattle.bench_world.specs.Worlds.{MembersAreNumbered};
-ghost use Rattle.bench_world.specs.Settling.{reported_of, gain_sum, ArePartlySettled};
+ghost use Rattle.bench_world.specs.Settling.{sent_sync, new_parts_sum, ArePartlySettled};
 
-use crate::member_gathering::gather_all;
+use crate::member_fetches::fetch_all_for_members;
 use crate::sync_exchange::{MemberSync, all_known, learn_all, tell_all};
 use crate::touched::Touched;
 use bench_net::{Draws, Net, Sent};
@@ -31,9 +31,9 @@ pub(crate) fn settle_members<N: Net + Sync, R: Threads + Sync>(
 ) -> Result<(Vec<MemberSync>, u64, u64), AllocError>
     ghost begun: { World }
     requires { CanSettle g.now begun workers touched.now members.old.items }
-    ensures reported { IfOk result (λ r. map reported_of r.0.items ≡ map (tells g.now) members.old.items) }
-    ensures parts { IfOk result (λ r. r.1 ≡ settle_gains begun) }
-    ensures octets { IfOk result (λ r. r.2 ≡ gain_sum (size_of g.now (logs begun)) begun begun.members) }
+    ensures syncs { IfOk result (λ r. map sent_sync r.0.items ≡ map (tells g.now) members.old.items) }
+    ensures parts { IfOk result (λ r. r.1 ≡ settle_new_parts begun) }
+    ensures octets { IfOk result (λ r. r.2 ≡ new_parts_sum (size_of g.now (logs begun)) begun begun.members) }
     ensures members { OnOk result (in_groups members.new.items ≡ map (settled_member begun) begun.members) }
     ensures len { length members.new.items ≡ length members.old.items }
     ensures consistent { AreConsistentMembers g.now (logs begun) members.new.items }
@@ -42,20 +42,20 @@ pub(crate) fn settle_members<N: Net + Sync, R: Threads + Sync>(
     // After running out of memory each member has come a part of the way.
     ensures err { OnErr result (ArePartlySettled begun (in_groups members.new.items)) }
 {
-    let reported = tell_all(alloc, g, members.as_slice())?;
+    let syncs = tell_all(alloc, g, members.as_slice())?;
     let known = all_known(alloc, members.as_slice())?;
     learn_all(&known, members);
-    let (parts, octets) = gather_all(rt, alloc, g, net, workers, touched, members)?;
-    Ok((reported, parts, octets))
+    let (parts, octets) = fetch_all_for_members(rt, alloc, g, net, workers, touched, members)?;
+    Ok((syncs, parts, octets))
 }
 
 /// The members' sync Interests are sent, for which room was made.
-pub(crate) fn send_all(sent: &mut Sent, reported: Vec<MemberSync>)
-    requires room { vec_len reported ≤ sent.old.spare }
-    requires few { length sent.old.packets + vec_len reported < 4294967295 }
-    ensures { sent.new.packets ≡ sent.old.packets ++ map reported_of reported.items }
+pub(crate) fn send_all(sent: &mut Sent, syncs: Vec<MemberSync>)
+    requires room { vec_len syncs ≤ sent.old.spare }
+    requires few { length sent.old.packets + vec_len syncs < 4294967295 }
+    ensures { sent.new.packets ≡ sent.old.packets ++ map sent_sync syncs.items }
 {
-    for one in reported {
+    for one in syncs {
         sent.add_reserved(one.sender, one.vector, one.octets);
     }
 }

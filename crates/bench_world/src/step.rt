@@ -5,7 +5,7 @@ ghost use Rattle.group_model.specs.Steps.{after_event, after_events};
 ghost use Rattle.group_model.specs.Refusals.{refusal, EventsAreTaken};
 ghost use Rattle.bench_world.specs.Serving.{environment};
 ghost use Rattle.bench_world.specs.Worlds.{world_of};
-ghost use Rattle.bench_world.specs.EventValues.{event_value, group_event, reported_value, event_report};
+ghost use Rattle.bench_world.specs.EventValues.{event_value, group_event, report_value, event_report};
 ghost use Rattle.bench_world.specs.Steps.{IsReady, NamesClient, IsFaultOf, IsStepFaultOf, NamesAll};
 ghost use Rattle.bench_world.specs.Runs.{StandsAsBefore, JoinsAfter, IsStep, event_values, group_events, IsStopped};
 ghost use Rattle.bench_world.specs.Runs.{ListLawFrom};
@@ -32,10 +32,10 @@ impl World {
         ensures world { OnOk result
             (world_of self.new ≡ after_event (environment self.old.keys (D.draw draws.now) (N.passes net.now))
             (world_of self.old) (group_event self.old.keys (event_value event.now))) }
-        ensures reported { IfOk result (λ happened. reported_value happened ≡ event_report self.old.keys
+        ensures report { IfOk result (λ happened. report_value happened ≡ event_report self.old.keys
             (environment self.old.keys (D.draw draws.now) (N.passes net.now)) (world_of self.old)
             (event_value event.now)) }
-        ensures all { IfOk result (λ it. NamesAll (length self.old.keys.members.names) (reported_value it)) }
+        ensures all { IfOk result (λ it. NamesAll (length self.old.keys.members.names) (report_value it)) }
         // After a settle, where nothing is hidden, each catalogue is the join of all publications.
         ensures joined { OnOk result (JoinsAfter (event_value event.now) (world_of self.new)) }
         ensures steps { OnOk result (self.new.steps ≡ self.old.steps + 1) }
@@ -46,7 +46,7 @@ impl World {
             (world_of self.old) (group_event self.old.keys (event_value event.now)))) }
         ensures err { OnErr result (StandsAsBefore (event_value event.now) self.old self.new) }
     {
-        self.is_sound();
+        self.cite_soundness();
         self.order_names_for(event);
         self.carry_out(rt, event, net, draws)
     }
@@ -68,10 +68,10 @@ impl World {
         ensures world { OnOk result
             (world_of self.new ≡ after_event (environment self.old.keys (D.draw draws.now) (N.passes net.now))
             (world_of self.old) (group_event self.old.keys (event_value event.now))) }
-        ensures reported { IfOk result (λ happened. reported_value happened ≡ event_report self.old.keys
+        ensures report { IfOk result (λ happened. report_value happened ≡ event_report self.old.keys
             (environment self.old.keys (D.draw draws.now) (N.passes net.now)) (world_of self.old)
             (event_value event.now)) }
-        ensures all { IfOk result (λ it. NamesAll (length self.old.keys.members.names) (reported_value it)) }
+        ensures all { IfOk result (λ it. NamesAll (length self.old.keys.members.names) (report_value it)) }
         // After a settle, where nothing is hidden, each catalogue is the join of all publications.
         ensures joined { OnOk result (JoinsAfter (event_value event.now) (world_of self.new)) }
         ensures steps { OnOk result (self.new.steps ≡ self.old.steps + 1) }
@@ -191,7 +191,7 @@ impl World {
         ensures keys { self.new.keys ≡ self.old.keys }
         ensures mirrors { self.new.mirrors ≡ self.old.mirrors }
     {
-        self.is_sound();
+        self.cite_soundness();
         let mut made = 0;
         for event in events {
             match self.step(rt, event, net, draws) {

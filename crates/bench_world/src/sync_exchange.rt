@@ -5,7 +5,7 @@ ghost use Rattle.group_model.specs.Publications.{Logs};
 ghost use Rattle.repo_member.specs.MemberState.{member_learns, member_ends_claims};
 ghost use Rattle.bench_world.specs.Conditions.{CanTell};
 ghost use Rattle.bench_world.specs.Worlds.{state_at, tells};
-ghost use Rattle.bench_world.specs.Settling.{reported_of};
+ghost use Rattle.bench_world.specs.Settling.{sent_sync};
 
 use crate::numbers::numbers;
 use repo_member::{Group, Member};
@@ -28,21 +28,21 @@ pub(crate) fn tell_all(
 ) -> Result<Vec<MemberSync>, AllocError>
     ghost logs: { Logs }
     requires { CanTell g.now logs members.now }
-    ensures { IfOk result (λ reported. map reported_of reported.items ≡ map (tells g.now) members.now) }
+    ensures { IfOk result (λ syncs. map sent_sync syncs.items ≡ map (tells g.now) members.now) }
 {
-    let mut reported = Vec::with_capacity(alloc, members.len())?;
+    let mut syncs = Vec::with_capacity(alloc, members.len())?;
     let mut sender = 0;
     for member in members {
         let vector = numbers(alloc, member.vector())?;
         let octets = member.sync(alloc, g)?;
-        reported.push(MemberSync {
+        syncs.push(MemberSync {
             sender,
             vector,
             octets,
         })?;
         sender += 1;
     }
-    Ok(reported)
+    Ok(syncs)
 }
 
 /// What all members know together.

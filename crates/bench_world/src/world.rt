@@ -1,5 +1,5 @@
 ghost use Rattle.std.specs.Prelude.{◌≡◌, ◌+◌, ◌<◌, length, [], IfOk};
-ghost use Rattle.group_model.specs.World.{opening_world, member, catalogue_at};
+ghost use Rattle.group_model.specs.World.{initial_world, member, catalogue_at};
 ghost use Rattle.group_model.specs.Sound.{IsSoundGroup};
 ghost use Rattle.repo_member.specs.Listed.{member_catalogue};
 ghost use Rattle.bench_world.specs.Worlds.{world_of, state_at, drawing, begun_all, IsConsistentState};
@@ -84,13 +84,13 @@ impl World {
     /// The members of a group before anything has happened, each with its first draw. The time is 0.
     pub fn new<D: Draws>(alloc: Global, group: Group, draws: &D) -> Result<World, AllocError>
         ensures world { IfOk result (λ world.
-            world_of world ≡ opening_world (drawing (D.draw draws.now)) (length group.members.names)) }
+            world_of world ≡ initial_world (drawing (D.draw draws.now)) (length group.members.names)) }
         ensures keys { IfOk result (λ world. world.keys ≡ group) }
         ensures steps { IfOk result (λ world. world.steps ≡ 0) }
         ensures mirrors { IfOk result (λ world. world.mirrors ≡ []) }
     {
         let members = begin_all(alloc, &group, draws)?;
-        group.is_sound();
+        group.cite_soundness();
         Ok(World {
             alloc,
             group,
@@ -173,7 +173,7 @@ impl World {
     }
 
     /// What holds of every world. Costs nothing, and is called for its clauses.
-    pub fn is_sound(&self)
+    pub fn cite_soundness(&self)
         ensures names { length self.now.members ≡ length self.now.keys.members.names }
         ensures sound { IsSoundGroup (world_of self.now) }
         ensures consistent { IsConsistentState self.now }
@@ -194,7 +194,7 @@ fn begin_all<D: Draws>(alloc: Global, g: &Group, draws: &D) -> Result<Vec<Member
     ensures { IfOk result (λ members. members.items
         ≡ begun_all (length g.now.members.names) (D.draw draws.now)) }
 {
-    g.is_sound();
+    g.cite_soundness();
     let count = g.roster().len() as u32;
     let mut members = Vec::with_capacity(alloc, count as usize)?;
     for number in 0..count {

@@ -39,7 +39,7 @@ module _ {T : Type 0} where
       let rest = all_idle f z vs (omega arith) (λ k u e. idle (suc k) u e) in omega arith
 
 module _ {T : Type 0} (tries seats : ℕ) (s : St T) (r : Kept tries seats s) (id : ℕ) (v : SeatKnowledge T)
-    (at : get_elem? s.views id ≡ some v) (reported : v.tries ≡ tries) (every : v.shares ≡ seats) (b : BoardId) where
+    (at : get_elem? s.views id ≡ some v) (tries_known : v.tries ≡ tries) (every : v.shares ≡ seats) (b : BoardId) where
   -- the others know nothing
   alone : (f : SeatKnowledge T → ℕ) → f (founder 0 0) ≡ 0 → total f s.views ≡ f v
   alone f z = let gone : SeatKnowledge T = founder 0 0 in let vs : List (SeatKnowledge T) = set s.views id gone in
@@ -85,7 +85,7 @@ module _ {T : Type 0} (tries seats : ℕ) (s : St T) (r : Kept tries seats s) (i
             mine spends,
             (λ k. mine (finished k)),
             (λ k. mine (tried k)),
-            subst (λ n. a < n) (sym reported) low,
+            subst (λ n. a < n) (sym tries_known) low,
           ),
           r.values id v at i a f.0 f.1,
         )
@@ -94,7 +94,7 @@ module _ {T : Type 0} (tries seats : ℕ) (s : St T) (r : Kept tries seats s) (i
     at_spent is =
         let mine : (m : Mark) → marks v i m ≡ entries_due tries spent m =
         λ m. all_mine i m ∙ ap (λ p. entries_due tries p m) is in
-        (mine spends, (λ k. mine (finished k)), sym reported, λ k. mine (tried k))
+        (mine spends, (λ k. mine (finished k)), sym tries_known, λ k. mine (tried k))
 
 module _ {T : Type 0} (tries seats id : ℕ) (v : SeatKnowledge T) (ws : List ℕ) (xs : List (Option T))
     (b : BoardId) where
@@ -104,7 +104,7 @@ module _ {T : Type 0} (tries seats id : ℕ) (v : SeatKnowledge T) (ws : List �
       → (i n : ℕ) (h : Option T) → 0 < items i v.passed → get_elem? ws i ≡ some n → get_elem? xs i ≡ some h
       → ((n ≡ 3) × Settled (data_of b v) i h tries)
       ⊎ ((n ≢ 3) × (n / 4 < tries) × Settled (data_of b v) i h (n / 4 + 1))
-  closes fin reported every hs ps os i n h passed word value =
+  closes fin tries_known every hs ps os i n h passed word value =
       let s : St T = fin.0 in
       let r : Kept tries seats s = fin.1.0 in
       let at = fin.1.1 in
@@ -115,7 +115,7 @@ module _ {T : Type 0} (tries seats id : ℕ) (v : SeatKnowledge T) (ws : List �
       ⊎_elim
       (λ e.
       let a : ℕ = e.0 in
-      let got = at_done tries seats s r id v at reported every b i hs ps os passed a e.1 in
+      let got = at_done tries seats s r id v at tries_known every b i hs ps os passed a e.1 in
       let x : T = got.0 in
       let same : Some x ≡ h = some-injective (Some x) h (sym (fin.4 i (Some x) got.2) ∙ value) in
       let num : 4 * a + 2 ≡ n = sym (ap code e.1) ∙ is_n in
@@ -132,9 +132,10 @@ module _ {T : Type 0} (tries seats id : ℕ) (v : SeatKnowledge T) (ws : List �
       let same : None ≡ h = some-injective None h (sym (fin.4 i None (t.1 ∙ ap some none_is)) ∙ value) in
       inl (
         sym is_n ∙ ap code e,
-        subst (λ o. Settled d i o tries) same (at_spent tries seats s r id v at reported every b i hs ps os passed e),
+        subst (λ o. Settled d i o tries) same
+            (at_spent tries seats s r id v at tries_known every b i hs ps os passed e),
       ))
-      (ended tries seats s r id v at reported every b i hs ps os passed p refl)
+      (ended tries seats s r id v at tries_known every b i hs ps os passed p refl)
 
   -- the same, by what `settle` says
   pub closes_at : Final (Seen (Kept tries seats) id v) ws xs → v.tries ≡ tries → v.shares ≡ seats → v.held ≡ []
@@ -142,7 +143,7 @@ module _ {T : Type 0} (tries seats id : ℕ) (v : SeatKnowledge T) (ws : List �
       → (i : ℕ) → 0 < items i v.passed → (h : Option T) → get_elem? xs i ≡ some h → (m : ℕ)
       → (n : ℕ) × (get_elem? ws i ≡ some n) × (n ≡ 3 → m ≡ tries) × (n ≢ 3 → m ≡ n / 4 + 1)
       → Settled (data_of b v) i h m
-  closes_at fin reported every hs ps os i passed h value m tells = ⊎_elim
+  closes_at fin tries_known every hs ps os i passed h value m tells = ⊎_elim
       (λ e. subst (Settled (data_of b v) i h) (sym (tells.2 e.0)) e.1)
       (λ e. subst (Settled (data_of b v) i h) (sym (tells.3 e.0)) e.2)
-      (closes fin reported every hs ps os i tells.0 h passed tells.1 value)
+      (closes fin tries_known every hs ps os i tells.0 h passed tells.1 value)

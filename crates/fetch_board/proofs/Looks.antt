@@ -84,7 +84,7 @@ module _ {T : Type 0} (tries seats : ℕ) where
         ((λ h. let k = old.0 (omega arith) in omega arith), λ a h. let k = old.1 a h in omega arith);
     rises = λ a h. h;
     seen = λ j a h. sees i j a p v.seen h;
-    reported = refl;
+    tries_known = refl;
     shares = refl;
     some_share = some_share;
   }
@@ -110,7 +110,7 @@ module _ {T : Type 0} (tries seats : ℕ) where
             (look_move s r i id v at (subst (λ n. i < n) r.long near) some_share)),
         (
           is ∙ coded_word p,
-          subst (λ n. IsWithinTries n w) (sym (r.reported id v at some_share)) (within_word tries p (r.within i)),
+          subst (λ n. IsWithinTries n w) (sym (r.tries_known id v at some_share)) (within_word tries p (r.within i)),
           (λ a h. at_most_word a p (r.seen id v at i a h)),
           refl,
         ),

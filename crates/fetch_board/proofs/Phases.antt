@@ -199,7 +199,7 @@ module _ {T : Type 0} (tries seats : ℕ) (s : St T) (r : Kept tries seats s) wh
       ended = λ i. ended_at i (phase r.phases i) refl;
       tried = λ i a. once i (tried a);
       within = λ i a some. let c = count_at i (tried a) in
-          subst (λ n. a < n) (sym (r.reported id v at some_share))
+          subst (λ n. a < n) (sym (r.tries_known id v at some_share))
           (tried_within i a (phase r.phases i) (r.within i) (omega arith));
     }
 

@@ -11,11 +11,11 @@ use Rattle.fetch_board.specs.Words.{IsWithinTries, IsAtMost}
 use Rattle.fetch_board.specs.Seats.{SeatData, items_of, items_of_done, seen_of, looked, claimed}
 
 -- The word as a look tells it.
-abbrev pub reported_word : Word → Seen
-reported_word (Wanted a) = seen.Wanted a
-reported_word (Held a) = seen.Held a
-reported_word (Done a) = seen.Done
-reported_word Spent = seen.Spent
+abbrev pub seen_word : Word → Seen
+seen_word (Wanted a) = seen.Wanted a
+seen_word (Held a) = seen.Held a
+seen_word (Done a) = seen.Done
+seen_word Spent = seen.Spent
 
 module _ {T : Type 0} where
   -- At its one step on the item's word the seat v found the word w, and so became v'. The word can be

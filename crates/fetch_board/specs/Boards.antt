@@ -8,6 +8,6 @@ pub record IsLaidOut (board : BoardId) (items tries ruled : ℕ) : Type 0 where
   pub even : board.words ≡ board.slots
   pub some : 0 < board.slots
   pub room : items ≤ board.slots
-  pub reported : tries ≡ ruled
+  pub tries_known : tries ≡ ruled
   pub some_try : 0 < tries
   pub few_tries : tries ≤ 16

@@ -4,7 +4,7 @@ ghost use Rattle.fetch_board.specs.declared.word.Word.TheVariants.{Wanted};
 ghost use Rattle.fetch_board.specs.declared.taken.Taken.TheVariants as answer;
 ghost use Rattle.fetch_board.specs.Counts.{items};
 ghost use Rattle.fetch_board.specs.Seats.{IsSeatOf, Holds, items_of, returned, finished, forgone, combined};
-ghost use Rattle.fetch_board.specs.Answers.{Decides, Takes, Finds, Once, known, after_claim, reported_word};
+ghost use Rattle.fetch_board.specs.Answers.{Decides, Takes, Finds, Once, known, after_claim, seen_word};
 
 use crate::board::Board;
 use crate::plays::{Agree, Claim, File, GiveBack, Look, Recall, Reserve, Shares, Spend};
@@ -61,7 +61,7 @@ impl<T: Drop> Board<T> {
         requires seat { IsSeatOf self.now seat.old }
         requires item { item < self.now.items }
         ensures seat { IsSeatOf self.now seat.new }
-        ensures seen { (word : WordOf) × Finds item word seat.old seat.new × (result ≡ reported_word word) }
+        ensures seen { (word : WordOf) × Finds item word seat.old seat.new × (result ≡ seen_word word) }
     {
         let found = self.table.shared.load::<Look>(&mut seat.inner, item);
         word_of(found).seen()

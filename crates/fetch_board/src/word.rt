@@ -1,6 +1,6 @@
 ghost use Rattle.std.specs.Prelude.{◌≡◌};
 ghost use Rattle.fetch_board.specs.Words.{word_code, IsWithinTries};
-ghost use Rattle.fetch_board.specs.Answers.{reported_word};
+ghost use Rattle.fetch_board.specs.Answers.{seen_word};
 
 use crate::taken::Seen;
 
@@ -15,7 +15,7 @@ pub enum Word {
 
 impl Word {
     pub(crate) fn seen(self) -> Seen
-        ensures { result ≡ reported_word self }
+        ensures { result ≡ seen_word self }
     {
         match self {
             Word::Wanted(attempt) => Seen::Wanted { attempt },

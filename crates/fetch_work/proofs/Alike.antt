@@ -7,7 +7,7 @@ use Rattle.ndn_sign.specs.Ring.{NamedKey}
 use Rattle.repo_object.specs.declared.job.Job.{Job}
 use Rattle.repo_object.specs.Wants.{WantedPart}
 use Rattle.repo_object.specs.Verdict.{CheckedPart}
-use Rattle.fetch_work.specs.Attempts.{brings}
+use Rattle.fetch_work.specs.Attempts.{packet_at}
 use Rattle.fetch_work.specs.Teams.{IsFirst}
 use Rattle.fetch_work.specs.Phases.{AreFirst}
 
@@ -31,7 +31,7 @@ module _ (answer : WantedPart → ℕ → Option (List ℕ)) (ring : List NamedK
       → (parts ≡ others) × (ns ≡ ms)
   alike [] [] [] [] [] p q = (refl, refl)
   alike (j ∷ js) (x ∷ xs) (y ∷ ys) (n ∷ ns) (m ∷ ms) p q =
-      let head = one_first (brings answer ring j) tries x y n m p.0 q.0 in let tail = alike js xs ys ns ms p.1 q.1 in
+      let head = one_first (packet_at answer ring j) tries x y n m p.0 q.0 in let tail = alike js xs ys ns ms p.1 q.1 in
       (same_cons x y xs ys head.0 tail.0, same_cons n m ns ms head.1 tail.1)
   alike [] (x ∷ xs) ys ns ms p q = absurd p
   alike [] [] ys (n ∷ ns) ms p q = absurd p

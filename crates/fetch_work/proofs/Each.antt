@@ -5,7 +5,7 @@ use Rattle.ndn_sign.specs.Ring.{NamedKey}
 use Rattle.repo_object.specs.declared.job.Job.{Job}
 use Rattle.repo_object.specs.Wants.{WantedPart}
 use Rattle.repo_object.specs.Verdict.{CheckedPart}
-use Rattle.fetch_work.specs.Attempts.{brings, job_at}
+use Rattle.fetch_work.specs.Attempts.{packet_at, job_at}
 use Rattle.fetch_work.specs.Teams.{IsFirst}
 use Rattle.fetch_work.specs.Phases.{AreFirst}
 
@@ -13,7 +13,7 @@ module _ (answer : WantedPart → ℕ → Option (List ℕ)) (ring : List NamedK
   pub each_first : (jobs : List Job) (parts : List (Option CheckedPart)) (ns : List ℕ) → length parts ≡ length jobs
       → length ns ≡ length jobs
       → ((i : ℕ) → i < length jobs
-      → IsFirst (brings answer ring (job_at jobs i)) tries (get_or parts i None) (get_or ns i 0))
+      → IsFirst (packet_at answer ring (job_at jobs i)) tries (get_or parts i None) (get_or ns i 0))
       → AreFirst answer ring tries jobs parts ns
   each_first [] [] [] a b h = tt
   each_first [] [] (n ∷ ns) a b h = absurd (omega arith)

@@ -21,8 +21,9 @@ all_parts F xs x ys e h = let h' : All F (xs ++ x ∷ []) = subst (All F) e h in
   subst F (get_or-append_seam xs x [] x) (h' (length xs) x (omega (arith, length-append xs (x ∷ [])))),
 )
 
-module _ {T : Type 0} (brings : ℕ → ℕ → Option T) (count : ℕ) where
-  pub knows_both : (v w : SeatData T) → Knows brings count v → Knows brings count w → Knows brings count (combined v w)
+module _ {T : Type 0} (packet_at : ℕ → ℕ → Option T) (count : ℕ) where
+  pub knows_both : (v w : SeatData T) → Knows packet_at count v → Knows packet_at count w
+      → Knows packet_at count (combined v w)
   knows_both v w p q = record {
     holds = ap (λ l. l ++ w.held) p.holds ∙ q.holds;
     owes = ap (λ l. l ++ w.owed) p.owes ∙ q.owes;
@@ -33,8 +34,8 @@ module _ {T : Type 0} (brings : ℕ → ℕ → Option T) (count : ℕ) where
         (either (pairs i a v.tried) (pairs i a w.tried) (omega arith));
   }
 
-  pub first_found : (v : SeatData T) → Knows brings count v → (i n : ℕ) (h : Option T) → Settled v i h n
-      → IsFirst (brings i) v.tries h n
+  pub first_found : (v : SeatData T) → Knows packet_at count v → (i n : ℕ) (h : Option T) → Settled v i h n
+      → IsFirst (packet_at i) v.tries h n
   first_found v p i n (Some x) s = (
     s.0,
     s.6,
@@ -51,39 +52,40 @@ module _ {T : Type 0} (brings : ℕ → ℕ → Option T) (count : ℕ) where
   )
 
   -- the seats of all that have worked, joined into one
-  pub knows_all : (board : BoardTerms) (v : SeatData T) (vs : List (SeatData T)) → Knows brings count v
-      → All (λ u. HasWorked brings count board u) vs
-      → Knows brings count (fold combined v vs) × ((fold combined v vs).shares ≡ v.shares + length vs)
+  pub knows_all : (board : BoardTerms) (v : SeatData T) (vs : List (SeatData T)) → Knows packet_at count v
+      → All (λ u. HasWorked packet_at count board u) vs
+      → Knows packet_at count (fold combined v vs) × ((fold combined v vs).shares ≡ v.shares + length vs)
   knows_all board v [] k all = (k, omega arith)
   knows_all board v (w ∷ ws) k all =
-      let one = All-head (λ u. HasWorked brings count board u) w ws all in
+      let one = All-head (λ u. HasWorked packet_at count board u) w ws all in
       let rest = knows_all board (combined v w) ws (knows_both v w k one.knows)
-      (All-tail (λ u. HasWorked brings count board u) w ws all) in
+      (All-tail (λ u. HasWorked packet_at count board u) w ws all) in
       let sum = rest.1 in
       let share = one.share in (rest.0, omega arith)
 
   -- of all seats the last was taken, and the others were joined into it
   pub team_knows : (board : BoardTerms) (all vs : List (SeatData T)) (v s : SeatData T) → all ≡ vs ++ v ∷ []
-      → All (λ u. HasWorked brings count board u) all → s ≡ fold combined v vs
-      → Knows brings count s × (s.shares ≡ length all)
+      → All (λ u. HasWorked packet_at count board u) all → s ≡ fold combined v vs
+      → Knows packet_at count s × (s.shares ≡ length all)
   team_knows board all vs v s last each joined =
-      let parts = all_parts (λ u. HasWorked brings count board u) vs v all last each in
+      let parts = all_parts (λ u. HasWorked packet_at count board u) vs v all last each in
       let whole = knows_all board v vs parts.1.knows parts.0 in
       let sum = whole.1 in
       let one = parts.1.share in
       let long = ap length last in
       let ends = length-append vs (v ∷ []) in
-      subst (λ u. Knows brings count u × (u.shares ≡ length all)) (sym joined) (whole.0, omega arith)
+      subst (λ u. Knows packet_at count u × (u.shares ≡ length all)) (sym joined) (whole.0, omega arith)
 
-module _ {T : Type 0} (brings : ℕ → ℕ → Option T) (count : ℕ) where
+module _ {T : Type 0} (packet_at : ℕ → ℕ → Option T) (count : ℕ) where
   -- what became of the items is for each what its first attempt brings that brings anything
-  pub first_all : {E : Type 0} (n tries : ℕ) (v : SeatData T) → Knows brings count v → n ≡ count → v.tries ≡ tries
+  pub first_all : {E : Type 0} (n tries : ℕ) (v : SeatData T) → Knows packet_at count v → n ≡ count → v.tries ≡ tries
       → (r : Result (Outcome T) E)
       → IfOk r (λ o. (i : ℕ) → i < n → Settled v i (get_or o.values.items i None) (get_or o.attempts.items i 0))
       → IfOk r
       (λ o. (i : ℕ) → i < count
-      → IsFirst (brings i) tries (get_or o.values.items i None) (get_or o.attempts.items i 0))
+      → IsFirst (packet_at i) tries (get_or o.values.items i None) (get_or o.attempts.items i 0))
   first_all n tries v k same is (Ok o) h = λ i l. subst
-      (λ m. IsFirst (brings i) m (get_or o.values.items i None) (get_or o.attempts.items i 0)) is
-      (first_found brings count v k i (get_or o.attempts.items i 0) (get_or o.values.items i None) (h i (omega arith)))
+      (λ m. IsFirst (packet_at i) m (get_or o.values.items i None) (get_or o.attempts.items i 0)) is
+      (first_found packet_at count v k i (get_or o.attempts.items i 0) (get_or o.values.items i None)
+      (h i (omega arith)))
   first_all n tries v k same is (Err e) h = tt

@@ -34,9 +34,9 @@ or_false : (a b : Bool) → (a || b) ≡ false → (a ≡ false) × (b ≡ false
 or_false true b e = absurd (true≢false e)
 or_false false b e = (refl, e)
 
-module _ {T : Type 0} (brings : ℕ → ℕ → Option T) (count : ℕ) (tries : ℕ) where
+module _ {T : Type 0} (packet_at : ℕ → ℕ → Option T) (count : ℕ) (tries : ℕ) where
   -- a seat with no item in any list knows nothing wrong
-  pub works_from_nothing : (v : SeatData T) → HasNothing v → Works brings count tries v
+  pub works_from_nothing : (v : SeatData T) → HasNothing v → Works packet_at count tries v
   works_from_nothing v h =
       record {
         holds = h.held;
@@ -47,7 +47,8 @@ module _ {T : Type 0} (brings : ℕ → ℕ → Option T) (count : ℕ) (tries :
         missed = λ i a some none. let z : pairs i a v.tried ≡ 0 = ap (pairs i a) h.tried in absurd (omega arith);
       }
 
-  pub scan_start : (lo : ℕ) (v : SeatData T) → Works brings count tries v → Scans brings count tries lo lo v false v
+  pub scan_start : (lo : ℕ) (v : SeatData T) → Works packet_at count tries v
+      → Scans packet_at count tries lo lo v false v
   scan_start lo v h =
       record {
         works = h;
@@ -61,8 +62,8 @@ module _ {T : Type 0} (brings : ℕ → ℕ → Option T) (count : ℕ) (tries :
       }
 
   -- the visit of the item k after those before it
-  pub scan_next : (lo k : ℕ) (u v w : SeatData T) (gave more : Bool) → Scans brings count tries lo k u gave v
-      → Visits brings count tries k v more w → Scans brings count tries lo (k + 1) u (gave || more) w
+  pub scan_next : (lo k : ℕ) (u v w : SeatData T) (gave more : Bool) → Scans packet_at count tries lo k u gave v
+      → Visits packet_at count tries k v more w → Scans packet_at count tries lo (k + 1) u (gave || more) w
   scan_next lo k u v w gave more s t =
       record {
         works = t.works;
@@ -82,8 +83,8 @@ module _ {T : Type 0} (brings : ℕ → ℕ → Option T) (count : ℕ) (tries :
       }
 
   -- what lies after an item, and then what lies before it, is all
-  pub scan_round : (mid : ℕ) (u v w : SeatData T) (gave more : Bool) → Scans brings count tries mid count u gave v
-      → Scans brings count tries 0 mid v more w → Scans brings count tries 0 count u (gave || more) w
+  pub scan_round : (mid : ℕ) (u v w : SeatData T) (gave more : Bool) → Scans packet_at count tries mid count u gave v
+      → Scans packet_at count tries 0 mid v more w → Scans packet_at count tries 0 count u (gave || more) w
   scan_round mid u v w gave more s t =
       record {
         works = t.works;
@@ -102,6 +103,6 @@ module _ {T : Type 0} (brings : ℕ → ℕ → Option T) (count : ℕ) (tries :
             (below_or i mid);
       }
 
-  pub rests_after : (u w : SeatData T) → Scans brings count tries 0 count u false w → w.owed ≡ []
+  pub rests_after : (u w : SeatData T) → Scans packet_at count tries 0 count u false w → w.owed ≡ []
   rests_after u w s = none_left w.owed
       (λ i. ⊎_elim (λ z. z) (λ some. s.owes_none refl i (omega arith) (s.works.owes i some)) (none_or (items i w.owed)))

@@ -28,9 +28,9 @@ count_new i a xs z once j b = ⊎_elim
 let_go : (i a : ℕ) (xs : List (ℕ × ℕ)) → xs ≡ [] → released i ((i, a) ∷ xs) ≡ []
 let_go i a xs e = ap (λ b. keep_unless b (i, a) (released i xs)) (own i) ∙ ap (released i) e
 
-module _ {T : Type 0} (brings : ℕ → ℕ → Option T) (count : ℕ) (tries : ℕ) where
+module _ {T : Type 0} (packet_at : ℕ → ℕ → Option T) (count : ℕ) (tries : ℕ) where
   -- what was seen and learnt doesn't count
-  hidden : (v : SeatData T) → Works brings count tries v → Works brings count tries (known v)
+  hidden : (v : SeatData T) → Works packet_at count tries v → Works packet_at count tries (known v)
   hidden v h = record {
     holds = h.holds;
     owes = h.owes;
@@ -40,7 +40,7 @@ module _ {T : Type 0} (brings : ℕ → ℕ → Option T) (count : ℕ) (tries :
     missed = h.missed;
   }
 
-  shown : (v : SeatData T) → Works brings count tries (known v) → Works brings count tries v
+  shown : (v : SeatData T) → Works packet_at count tries (known v) → Works packet_at count tries v
   shown v h = record {
     holds = h.holds;
     owes = h.owes;
@@ -50,8 +50,8 @@ module _ {T : Type 0} (brings : ℕ → ℕ → Option T) (count : ℕ) (tries :
     missed = h.missed;
   }
 
-  visits_known : (i : ℕ) (v w : SeatData T) (gave : Bool) → Visits brings count tries i (known v) gave (known w)
-      → Visits brings count tries i v gave w
+  visits_known : (i : ℕ) (v w : SeatData T) (gave : Bool) → Visits packet_at count tries i (known v) gave (known w)
+      → Visits packet_at count tries i v gave w
   visits_known i v w gave t =
       record {
         works = shown w t.works;
@@ -65,7 +65,8 @@ module _ {T : Type 0} (brings : ℕ → ℕ → Option T) (count : ℕ) (tries :
       }
 
   -- another seat has the item, or had it
-  met_visits : (i : ℕ) (v : SeatData T) → Works brings count tries v → Visits brings count tries i v false (met i v)
+  met_visits : (i : ℕ) (v : SeatData T) → Works packet_at count tries v
+      → Visits packet_at count tries i v false (met i v)
   met_visits i v h =
       record {
         works = record {
@@ -86,7 +87,7 @@ module _ {T : Type 0} (brings : ℕ → ℕ → Option T) (count : ℕ) (tries :
       }
 
   module _ (i a : ℕ) (u : SeatData T) (near : i < count) (low : a < tries) (free : pairs i a u.tried ≡ 0)
-      (h : Works brings count tries u) where
+      (h : Works packet_at count tries u) where
     within_new : (j b : ℕ) → 0 < pairs j b ((i, a) ∷ u.tried) → (j < count) × (b < tries)
     within_new j b some = ⊎_elim (λ e. (subst (λ k. k < count) (sym e.0) near, subst (λ k. k < tries) (sym e.1) low))
         (h.within j b) (newest i j a b (pairs j b u.tried) some)
@@ -94,14 +95,14 @@ module _ {T : Type 0} (brings : ℕ → ℕ → Option T) (count : ℕ) (tries :
     owes_paid : (j : ℕ) → 0 < items j (paid i u.owed) → j < count
     owes_paid j some = let l = paid_less i j u.owed in h.owes j (omega arith)
 
-    works_some : (x : T) → brings i a ≡ Some x → Works brings count tries (finished i a x (claimed i a u))
+    works_some : (x : T) → packet_at i a ≡ Some x → Works packet_at count tries (finished i a x (claimed i a u))
     works_some x is = record {
       holds = let_go i a u.held h.holds;
       owes = owes_paid;
       once = count_new i a u.tried free h.once;
       within = within_new;
       brought = λ j b y has. ⊎_elim
-          (λ (e : (i, a, x) ≡ (j, b, y)). subst (λ (t : ℕ × ℕ × T). brings t.0 t.1 ≡ Some t.2) e is)
+          (λ (e : (i, a, x) ≡ (j, b, y)). subst (λ (t : ℕ × ℕ × T). packet_at t.0 t.1 ≡ Some t.2) e is)
           (h.brought j b y) has;
       missed = λ j b some z. ⊎_elim
           (λ e. let k = pair_own i a (triples i a u.done) in
@@ -110,13 +111,13 @@ module _ {T : Type 0} (brings : ℕ → ℕ → Option T) (count : ℕ) (tries :
           (λ old. h.missed j b old (omega arith)) (newest i j a b (pairs j b u.tried) some);
     }
 
-    missed_new : brings i a ≡ None → (j b : ℕ) → 0 < pairs j b ((i, a) ∷ u.tried) → triples j b u.done ≡ 0
-        → brings j b ≡ None
+    missed_new : packet_at i a ≡ None → (j b : ℕ) → 0 < pairs j b ((i, a) ∷ u.tried) → triples j b u.done ≡ 0
+        → packet_at j b ≡ None
     missed_new is j b some z = ⊎_elim
-        (λ e. subst (λ k. brings k b ≡ None) (sym e.0) (subst (λ k. brings i k ≡ None) (sym e.1) is))
+        (λ e. subst (λ k. packet_at k b ≡ None) (sym e.0) (subst (λ k. packet_at i k ≡ None) (sym e.1) is))
         (λ old. h.missed j b old z) (newest i j a b (pairs j b u.tried) some)
 
-    works_forgone : brings i a ≡ None → Works brings count tries (forgone i (claimed i a u))
+    works_forgone : packet_at i a ≡ None → Works packet_at count tries (forgone i (claimed i a u))
     works_forgone is = record {
       holds = let_go i a u.held h.holds;
       owes = owes_paid;
@@ -126,7 +127,7 @@ module _ {T : Type 0} (brings : ℕ → ℕ → Option T) (count : ℕ) (tries :
       missed = missed_new is;
     }
 
-    works_returned : brings i a ≡ None → Works brings count tries (returned i (claimed i a u))
+    works_returned : packet_at i a ≡ None → Works packet_at count tries (returned i (claimed i a u))
     works_returned is = record {
       holds = let_go i a u.held h.holds;
       owes = λ j some. ⊎_elim (λ e. subst (λ k. k < count) (sym e) near) (owes_paid j)
@@ -138,8 +139,8 @@ module _ {T : Type 0} (brings : ℕ → ℕ → Option T) (count : ℕ) (tries :
     }
 
     -- the item was claimed and let go for good
-    ended : (w : SeatData T) → Works brings count tries w → w.passed ≡ i ∷ u.passed → w.shares ≡ u.shares
-        → w.tried ≡ (i, a) ∷ u.tried → w.owed ≡ paid i u.owed → Visits brings count tries i u false w
+    ended : (w : SeatData T) → Works packet_at count tries w → w.passed ≡ i ∷ u.passed → w.shares ≡ u.shares
+        → w.tried ≡ (i, a) ∷ u.tried → w.owed ≡ paid i u.owed → Visits packet_at count tries i u false w
     ended w works passed shares tried owed =
         record {
           works = works;
@@ -152,14 +153,14 @@ module _ {T : Type 0} (brings : ℕ → ℕ → Option T) (count : ℕ) (tries :
           owes_none = λ _. ap (items i) owed ∙ paid_own i u.owed;
         }
 
-    pub visit_some : (x : T) → brings i a ≡ Some x
-        → Visits brings count tries i u false (finished i a x (claimed i a u))
+    pub visit_some : (x : T) → packet_at i a ≡ Some x
+        → Visits packet_at count tries i u false (finished i a x (claimed i a u))
     visit_some x is = ended (finished i a x (claimed i a u)) (works_some x is) refl refl refl refl
 
-    pub visit_last : brings i a ≡ None → Visits brings count tries i u false (forgone i (claimed i a u))
+    pub visit_last : packet_at i a ≡ None → Visits packet_at count tries i u false (forgone i (claimed i a u))
     visit_last is = ended (forgone i (claimed i a u)) (works_forgone is) refl refl refl refl
 
-    pub visit_lost : brings i a ≡ None → Visits brings count tries i u true (returned i (claimed i a u))
+    pub visit_lost : packet_at i a ≡ None → Visits packet_at count tries i u true (returned i (claimed i a u))
     visit_lost is =
         record {
           works = works_returned is;
@@ -173,31 +174,32 @@ module _ {T : Type 0} (brings : ℕ → ℕ → Option T) (count : ℕ) (tries :
         }
 
   -- what a visit makes of the seat v, which after the claim is u
-  module _ (i : ℕ) (v u : SeatData T) (h : Works brings count tries v) where
+  module _ (i : ℕ) (v u : SeatData T) (h : Works packet_at count tries v) where
     pub visit_missed : (answer : Taken) → ((a : ℕ) → answer ≡ taken.Yes a → ⊥)
-        → known u ≡ after_claim i answer (known v) → Visits brings count tries i v false u
+        → known u ≡ after_claim i answer (known v) → Visits packet_at count tries i v false u
     visit_missed (taken.Yes a) miss is = absurd (miss a refl)
     visit_missed taken.Held miss is = visits_known i v u false
-        (subst (Visits brings count tries i (known v) false) (sym is) (met_visits i (known v) (hidden v h)))
+        (subst (Visits packet_at count tries i (known v) false) (sym is) (met_visits i (known v) (hidden v h)))
     visit_missed taken.Done miss is = visits_known i v u false
-        (subst (Visits brings count tries i (known v) false) (sym is) (met_visits i (known v) (hidden v h)))
+        (subst (Visits packet_at count tries i (known v) false) (sym is) (met_visits i (known v) (hidden v h)))
     visit_missed taken.Spent miss is = visits_known i v u false
-        (subst (Visits brings count tries i (known v) false) (sym is) (met_visits i (known v) (hidden v h)))
+        (subst (Visits packet_at count tries i (known v) false) (sym is) (met_visits i (known v) (hidden v h)))
 
     -- and at the end w
     module _ (w : SeatData T) (a : ℕ) (near : i < count) (low : a < tries) (free : pairs i a v.tried ≡ 0)
         (is : known u ≡ claimed i a (known v)) where
-      pub visit_finished : (x : T) → brings i a ≡ Some x → w ≡ finished i a x u → Visits brings count tries i v false w
+      pub visit_finished : (x : T) → packet_at i a ≡ Some x → w ≡ finished i a x u
+          → Visits packet_at count tries i v false w
       visit_finished x came e = visits_known i v w false
-          (subst (Visits brings count tries i (known v) false) (sym (ap known e ∙ ap (finished i a x) is))
+          (subst (Visits packet_at count tries i (known v) false) (sym (ap known e ∙ ap (finished i a x) is))
           (visit_some i a (known v) near low free (hidden v h) x came))
 
-      pub visit_forgone : brings i a ≡ None → w ≡ forgone i u → Visits brings count tries i v false w
+      pub visit_forgone : packet_at i a ≡ None → w ≡ forgone i u → Visits packet_at count tries i v false w
       visit_forgone lost e = visits_known i v w false
-          (subst (Visits brings count tries i (known v) false) (sym (ap known e ∙ ap (forgone i) is))
+          (subst (Visits packet_at count tries i (known v) false) (sym (ap known e ∙ ap (forgone i) is))
           (visit_last i a (known v) near low free (hidden v h) lost))
 
-      pub visit_returned : brings i a ≡ None → w ≡ returned i u → Visits brings count tries i v true w
+      pub visit_returned : packet_at i a ≡ None → w ≡ returned i u → Visits packet_at count tries i v true w
       visit_returned lost e = visits_known i v w true
-          (subst (Visits brings count tries i (known v) true) (sym (ap known e ∙ ap (returned i) is))
+          (subst (Visits packet_at count tries i (known v) true) (sym (ap known e ∙ ap (returned i) is))
           (visit_lost i a (known v) near low free (hidden v h) lost))

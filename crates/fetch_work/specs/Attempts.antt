@@ -12,9 +12,9 @@ use Rattle.fetch_work.specs.declared.link.Reply.{Reply}
 use Rattle.fetch_work.specs.declared.link.Reply.TheVariants.{Lost, Came}
 
 -- The octets that came.
-abbrev pub octets_that_came : Reply → Option (List ℕ)
-octets_that_came Lost = None
-octets_that_came (Came octets) = Some octets.now
+abbrev pub reply_octets : Reply → Option (List ℕ)
+reply_octets Lost = None
+reply_octets (Came octets) = Some octets.now
 
 -- The octets that were lent.
 abbrev pub octets_lent : Lending → Option (List ℕ)
@@ -34,8 +34,8 @@ checked_reply want ring (Some octets) = if_passed (ring_verdict want ring octets
 
 -- What an attempt at the job brings after so many others in the same phase, where a link gives these
 -- answers. The link is given its number: after `base` attempts of earlier phases, the next.
-abbrev pub brings : (WantedPart → ℕ → Option (List ℕ)) → List NamedKey → Job → ℕ → Option CheckedPart
-brings answer ring job before = checked_reply job.want ring (answer job.want (job.base + before + 1))
+abbrev pub packet_at : (WantedPart → ℕ → Option (List ℕ)) → List NamedKey → Job → ℕ → Option CheckedPart
+packet_at answer ring job before = checked_reply job.want ring (answer job.want (job.base + before + 1))
 
 -- What is found under a number that no job has.
 abbrev pub no_job : Job

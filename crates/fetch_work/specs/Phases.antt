@@ -4,7 +4,7 @@ use Rattle.ndn_sign.specs.Ring.{NamedKey}
 use Rattle.repo_object.specs.declared.job.Job.{Job}
 use Rattle.repo_object.specs.Wants.{WantedPart}
 use Rattle.repo_object.specs.Verdict.{CheckedPart}
-use Rattle.fetch_work.specs.Attempts.{brings}
+use Rattle.fetch_work.specs.Attempts.{packet_at}
 use Rattle.fetch_work.specs.Teams.{IsFirst}
 
 -- For each job, in order, its part is what the first attempt brings that brings one, and its number is
@@ -13,5 +13,5 @@ abbrev pub AreFirst : (WantedPart → ℕ → Option (List ℕ)) → List NamedK
     → List ℕ → Type 0
 AreFirst answer ring tries [] [] [] = Unit {0}
 AreFirst answer ring tries (job ∷ jobs) (part ∷ parts) (n ∷ ns) =
-    IsFirst (brings answer ring job) tries part n × AreFirst answer ring tries jobs parts ns
+    IsFirst (packet_at answer ring job) tries part n × AreFirst answer ring tries jobs parts ns
 AreFirst answer ring tries _ _ _ = ⊥

@@ -5,18 +5,18 @@ use Rattle.fetch_board.specs.Seats.{BoardTerms, SeatData, IsSeatOf}
 
 module _ {T : Type 0} where
   -- The seat holds and owes nothing, has passed every item, and knows what its attempts came to.
-  pub record Knows (brings : ℕ → ℕ → Option T) (count : ℕ) (v : SeatData T) : Type 0 where
+  pub record Knows (packet_at : ℕ → ℕ → Option T) (count : ℕ) (v : SeatData T) : Type 0 where
     pub holds : v.held ≡ []
     pub owes : v.owed ≡ []
     pub passed : (i : ℕ) → i < count → 0 < items i v.passed
-    pub brought : (i a : ℕ) (x : T) → Has (i, a, x) v.done → brings i a ≡ Some x
-    pub missed : (i a : ℕ) → 0 < pairs i a v.tried → triples i a v.done ≡ 0 → brings i a ≡ None
+    pub brought : (i a : ℕ) (x : T) → Has (i, a, x) v.done → packet_at i a ≡ Some x
+    pub missed : (i a : ℕ) → 0 < pairs i a v.tried → triples i a v.done ≡ 0 → packet_at i a ≡ None
 
   -- The seat of a worker that has done its part.
-  pub record HasWorked (brings : ℕ → ℕ → Option T) (count : ℕ) (board : BoardTerms) (v : SeatData T) : Type 0 where
+  pub record HasWorked (packet_at : ℕ → ℕ → Option T) (count : ℕ) (board : BoardTerms) (v : SeatData T) : Type 0 where
     pub seat : IsSeatOf board v
     pub share : v.shares ≡ 1
-    pub knows : Knows brings count v
+    pub knows : Knows packet_at count v
 
 -- What comes of an item whose attempts bring what f says, where it has so many tries. It is what the
 -- first attempt brings that brings anything, and the number of attempts up to that one. Or it is none,

@@ -15,18 +15,18 @@ module _ {T : Type 0} where
 
   -- The seat holds nothing. What it tried are different attempts at items of the board. Each value that
   -- it finished an item with is what that attempt brings, and each other attempt brings none.
-  pub record Works (brings : ℕ → ℕ → Option T) (count tries : ℕ) (v : SeatData T) : Type 0 where
+  pub record Works (packet_at : ℕ → ℕ → Option T) (count tries : ℕ) (v : SeatData T) : Type 0 where
     pub holds : v.held ≡ []
     pub owes : (i : ℕ) → 0 < items i v.owed → i < count
     pub once : (i a : ℕ) → pairs i a v.tried ≤ 1
     pub within : (i a : ℕ) → 0 < pairs i a v.tried → (i < count) × (a < tries)
-    pub brought : (i a : ℕ) (x : T) → Has (i, a, x) v.done → brings i a ≡ Some x
-    pub missed : (i a : ℕ) → 0 < pairs i a v.tried → triples i a v.done ≡ 0 → brings i a ≡ None
+    pub brought : (i a : ℕ) (x : T) → Has (i, a, x) v.done → packet_at i a ≡ Some x
+    pub missed : (i a : ℕ) → 0 < pairs i a v.tried → triples i a v.done ≡ 0 → packet_at i a ≡ None
 
   -- What one visit of the item i makes of the seat v, which gave the item back or not.
-  pub record Visits (brings : ℕ → ℕ → Option T) (count tries i : ℕ) (v : SeatData T) (gave_back : Bool)
+  pub record Visits (packet_at : ℕ → ℕ → Option T) (count tries i : ℕ) (v : SeatData T) (gave_back : Bool)
       (w : SeatData T) : Type 0 where
-    pub works : Works brings count tries w
+    pub works : Works packet_at count tries w
     pub shares : w.shares ≡ v.shares
     pub passed : 0 < items i w.passed
     pub passes : (j : ℕ) → items j v.passed ≤ items j w.passed
@@ -36,9 +36,9 @@ module _ {T : Type 0} where
     pub owes_none : gave_back ≡ false → items i w.owed ≡ 0
 
   -- What visits of the items from lo to hi make of the seat v, which gave one of them back or none.
-  pub record Scans (brings : ℕ → ℕ → Option T) (count tries lo hi : ℕ) (v : SeatData T) (gave_back : Bool)
+  pub record Scans (packet_at : ℕ → ℕ → Option T) (count tries lo hi : ℕ) (v : SeatData T) (gave_back : Bool)
       (w : SeatData T) : Type 0 where
-    pub works : Works brings count tries w
+    pub works : Works packet_at count tries w
     pub shares : w.shares ≡ v.shares
     pub passed : (i : ℕ) → lo ≤ i → i < hi → 0 < items i w.passed
     pub passes : (j : ℕ) → items j v.passed ≤ items j w.passed

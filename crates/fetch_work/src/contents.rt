@@ -39,7 +39,7 @@ pub fn digests<R: Threads + Sync>(
         → (slice_index_or digests.items k d).publisher ≡ (slice_index_or whole.now k w).publisher) }
     ensures numbers { IfOk result (λ digests. (k : ℕ) (d : ContentsDigest) (w : Whole) → k < length whole.now
         → (slice_index_or digests.items k d).seq ≡ (slice_index_or whole.now k w).seq) }
-    ensures reported { IfOk result (λ digests. (packets : List Packet) → All (IsWholeIn packets) whole.now
+    ensures made { IfOk result (λ digests. (packets : List Packet) → All (IsWholeIn packets) whole.now
         → All (IsDigestIn packets) digests.items) }
 {
     let empty = ContentsDigest {
@@ -54,8 +54,8 @@ pub fn digests<R: Threads + Sync>(
         rt,
         &mut digests,
         threads,
-        &|place, reported| {
-            *reported = whole[place].digest();
+        &|place, made| {
+            *made = whole[place].digest();
         },
     );
     Ok(digests)

@@ -1,6 +1,6 @@
 ghost use Rattle.std.specs.Prelude.{◌≡◌, ℕ, List, Option};
 ghost use Rattle.repo_object.specs.Wants.{WantedPart};
-ghost use Rattle.fetch_work.specs.Attempts.{octets_that_came, octets_lent};
+ghost use Rattle.fetch_work.specs.Attempts.{reply_octets, octets_lent};
 
 use repo_object::{Packet, Want};
 
@@ -33,7 +33,7 @@ pub trait Link {
 
     /// Asks for the part. Attempts at a part are counted from 1, over all its fetches.
     fn ask<'a>(&'a self, want: &Want, attempt: u32) -> Reply<'a>
-        ensures { octets_that_came result ≡ answer self.now want.now attempt };
+        ensures { reply_octets result ≡ answer self.now want.now attempt };
 
     /// The same, for a link that has packets to share.
     fn lend<'a>(&'a self, want: &Want, attempt: u32) -> Lending<'a>

@@ -1,6 +1,6 @@
 ghost use Rattle.std.specs.Prelude.{◌≡◌, ◌+◌, ◌<◌, ◌≤◌, length, All, slice_index_or};
 ghost use Rattle.repo_object.specs.Verdict.{ring_verdict};
-ghost use Rattle.fetch_work.specs.Attempts.{brings, job_at, CanBeTried, checked_reply, if_passed};
+ghost use Rattle.fetch_work.specs.Attempts.{packet_at, job_at, CanBeTried, checked_reply, if_passed};
 
 use crate::link::{Lending, Link};
 use crate::trial::Trial;
@@ -21,7 +21,7 @@ impl<'p, L: Link> Trial for LinkTrial<'p, L> {
     ghost can = { λ t i a. (i < length t.jobs.now)
         × All (λ job. CanBeTried (length t.ring.now) (a + 1) job) t.jobs.now };
 
-    ghost brings = { λ t i a. brings (L.answer t.link.now) t.ring.now (job_at t.jobs.now i) a };
+    ghost packet_at = { λ t i a. packet_at (L.answer t.link.now) t.ring.now (job_at t.jobs.now i) a };
 
     fn attempt(&self, item: usize, before: u32) -> Option<Checked<'p>> {
         try_job(self.link, &self.jobs[item], self.ring, before)
@@ -36,7 +36,7 @@ fn try_job<'p, L: Link>(
     before: u32,
 ) -> Option<Checked<'p>>
     requires { CanBeTried (length ring.now) (before + 1) job.now }
-    ensures { result ≡ brings (L.answer link.now) ring.now job.now before }
+    ensures { result ≡ packet_at (L.answer link.now) ring.now job.now before }
 {
     match link.lend(&job.want, job.base + before + 1) {
         Lending::Lost => None,

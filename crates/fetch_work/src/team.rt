@@ -38,7 +38,7 @@ fn worked<T: Trial>(
     requires worker { worker ≡ fresh board.now 1 }
     requires items { items ≡ board.now.items }
     requires can { (i a : ℕ) → i < items → a < board.now.tries → T.can trial.now i a }
-    ensures { HasWorked (T.brings trial.now) items board.now result }
+    ensures { HasWorked (T.packet_at trial.now) items board.now result }
 {
     let Worker { mut seat, first } = worker;
     work(board, &mut seat, trial, items, first);
@@ -57,7 +57,7 @@ fn work_all<T: Trial + Sync, R: Threads + Sync>(
     requires items { items ≡ board.now.items }
     requires can { (i a : ℕ) → i < items → a < board.now.tries → T.can trial.now i a }
     ensures count { IfOk result (λ v. length v.items ≡ length workers.items) }
-    ensures each { IfOk result (λ v. All (λ seat. HasWorked (T.brings trial.now) items board.now seat) v.items) }
+    ensures each { IfOk result (λ v. All (λ seat. HasWorked (T.packet_at trial.now) items board.now seat) v.items) }
 {
     thread::map_vec(
         rt,
@@ -66,7 +66,7 @@ fn work_all<T: Trial + Sync, R: Threads + Sync>(
             requires worker { worker ≡ fresh board.now 1 }
             requires items { items ≡ board.now.items }
             requires can { (i a : ℕ) → i < items → a < board.now.tries → T.can trial.now i a }
-            ensures { HasWorked (T.brings trial.entry.now) items board.entry.now result }
+            ensures { HasWorked (T.packet_at trial.entry.now) items board.entry.now result }
         { worked(board, worker, trial, items) },
     )
 }
@@ -100,7 +100,7 @@ pub(crate) fn run<T: Trial + Sync, R: Threads + Sync>(
     ensures count { IfOk result (λ o. length o.values.items ≡ items) }
     ensures counts { IfOk result (λ o. length o.attempts.items ≡ items) }
     ensures first { IfOk result (λ o. (i : ℕ) → i < items
-        → IsFirst (T.brings trial.now i) tries
+        → IsFirst (T.packet_at trial.now i) tries
         (slice_index_or o.values.items i None) (slice_index_or o.attempts.items i 0)) }
 {
     let (board, seats) = Board::new(alloc, items, tries, workers as usize)?;

@@ -6,10 +6,10 @@ pub(crate) trait Trial {
 
     ghost can: { Self → ℕ → ℕ → Type 0 };
 
-    ghost brings: { Self → ℕ → ℕ → Option Self.Value };
+    ghost packet_at: { Self → ℕ → ℕ → Option Self.Value };
 
     // What an attempt at the item brings, after so many others.
     fn attempt(&self, item: usize, before: u32) -> Option<Self::Value>
         requires { can self.now item before }
-        ensures { result ≡ brings self.now item before };
+        ensures { result ≡ packet_at self.now item before };
 }

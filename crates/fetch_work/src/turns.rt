@@ -18,9 +18,9 @@ fn visit<T: Trial>(
     requires seat { IsSeatOf board.now seat.old }
     requires item { (item < board.now.items) × (count ≡ board.now.items) }
     requires can { (i a : ℕ) → i < count → a < board.now.tries → T.can trial.now i a }
-    requires works { Works (T.brings trial.now) count board.now.tries seat.old }
+    requires works { Works (T.packet_at trial.now) count board.now.tries seat.old }
     ensures seat { IsSeatOf board.now seat.new }
-    ensures visits { Visits (T.brings trial.now) count board.now.tries item seat.old result seat.new }
+    ensures visits { Visits (T.packet_at trial.now) count board.now.tries item seat.old result seat.new }
 {
     let tries = board.tries();
     let Taken::Yes { attempt: before } = board.claim(seat, item) else {
@@ -54,9 +54,9 @@ fn scan<T: Trial>(
     requires seat { IsSeatOf board.now seat.old }
     requires range { (from ≤ to) × (to ≤ count) × (count ≡ board.now.items) }
     requires can { (i a : ℕ) → i < count → a < board.now.tries → T.can trial.now i a }
-    requires works { Works (T.brings trial.now) count board.now.tries seat.old }
+    requires works { Works (T.packet_at trial.now) count board.now.tries seat.old }
     ensures seat { IsSeatOf board.now seat.new }
-    ensures scans { Scans (T.brings trial.now) count board.now.tries from to seat.old result seat.new }
+    ensures scans { Scans (T.packet_at trial.now) count board.now.tries from to seat.old result seat.new }
 {
     let mut gave_back = false;
     for item in from..to {
@@ -76,9 +76,9 @@ fn round<T: Trial>(
     requires seat { IsSeatOf board.now seat.old }
     requires range { (first ≤ count) × (count ≡ board.now.items) }
     requires can { (i a : ℕ) → i < count → a < board.now.tries → T.can trial.now i a }
-    requires works { Works (T.brings trial.now) count board.now.tries seat.old }
+    requires works { Works (T.packet_at trial.now) count board.now.tries seat.old }
     ensures seat { IsSeatOf board.now seat.new }
-    ensures scans { Scans (T.brings trial.now) count board.now.tries 0 count seat.old result seat.new }
+    ensures scans { Scans (T.packet_at trial.now) count board.now.tries 0 count seat.old result seat.new }
 {
     let after = scan(board, seat, trial, count, first, count);
     let before = scan(board, seat, trial, count, 0, first);
@@ -99,7 +99,7 @@ pub(crate) fn work<T: Trial>(
     ensures seat { IsSeatOf board.now seat.new × (seat.new.shares ≡ seat.old.shares) }
     ensures rests { Rests seat.new }
     ensures passed { (i : ℕ) → i < count → 0 < items i seat.new.passed }
-    ensures works { Works (T.brings trial.now) count board.now.tries seat.new }
+    ensures works { Works (T.packet_at trial.now) count board.now.tries seat.new }
 {
     let first = first.min(count);
     loop {

@@ -3,7 +3,7 @@ ghost use Rattle.fetch_board.specs.Counts.{items, pairs, triples, Has};
 ghost use Rattle.fetch_board.specs.Seats.{IsSeatOf};
 ghost use Rattle.fetch_board.specs.Answers.{Rests};
 ghost use Rattle.repo_object.specs.Verdict.{CheckedPart};
-ghost use Rattle.fetch_work.specs.Attempts.{brings, job_at, CanBeTried};
+ghost use Rattle.fetch_work.specs.Attempts.{packet_at, job_at, CanBeTried};
 ghost use Rattle.fetch_work.specs.Works.{HasNothing};
 
 use crate::link::Link;
@@ -73,9 +73,9 @@ impl<'p> Worker<Checked<'p>> {
         ensures rests { Rests self.new }
         ensures passed { (i : ℕ) → i < length jobs.now → 0 < items i self.new.passed }
         ensures finished { (i a : ℕ) (part : CheckedPart) → Has (i, a, part) self.new.done
-            → brings (L.answer link.now) ring.now (job_at jobs.now i) a ≡ Some part }
+            → packet_at (L.answer link.now) ring.now (job_at jobs.now i) a ≡ Some part }
         ensures failed { (i a : ℕ) → 0 < pairs i a self.new.tried → triples i a self.new.done ≡ 0
-            → brings (L.answer link.now) ring.now (job_at jobs.now i) a ≡ None }
+            → packet_at (L.answer link.now) ring.now (job_at jobs.now i) a ≡ None }
         ensures different { (i a : ℕ) → pairs i a self.new.tried ≤ 1 }
         ensures few { length self.new.tried ≤ length jobs.now * board.now.tries }
     {

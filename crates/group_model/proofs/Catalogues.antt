@@ -23,7 +23,7 @@ use Rattle.group_model.specs.Publications.{published_from, published, parts_in, 
 use Rattle.group_model.specs.Publications.{is_unwithdrawn}
 use Rattle.group_model.specs.Member.{Member, member_holds, holds_all, catalogue, is_listed, knows_withdrawn}
 use Rattle.group_model.specs.World.{member, logs, catalogue_at}
-use Rattle.group_model.specs.Sound.{IsSoundMember, IsPublished, IsHiddenSoundly}
+use Rattle.group_model.specs.Sound.{IsSoundMember, IsPublished, IsDeletedSoundly}
 use Rattle.group_model.specs.Catalogues.{HoldsNoWithdrawal, BelongsInCatalogue, ListsThose, ListsInOrder}
 use Rattle.group_model.specs.Catalogues.{JoinListsThose, JoinListsInOrder}
 use Rattle.group_model.proofs.Lists.{same_any, any_in, none_in, from_filter, each_all, all_in}
@@ -218,12 +218,12 @@ listed ls m pair h =
     })
 
 pub lists_those : InSoundGroups ListsThose
-lists_those out w sound j pair l =
+lists_those env w sound j pair l =
     let s : IsSoundMember (logs w) j (member w j) = sound.members j l in
     record {
       exactly = (wholly (logs w) (member w j) pair, listed (logs w) (member w j) pair);
       not_hidden = λ hidden. false_from_ne_true (lists pair (catalogue_at w j)) (λ yes.
-          let r : IsHiddenSoundly (member w j) pair = s.hidden pair hidden in
+          let r : IsDeletedSoundly (member w j) pair = s.hidden pair hidden in
           let held : member_holds (member w j) (part_of pair 0) ≡ true =
           (wholly (logs w) (member w j) pair yes).held 0 (omega arith) in
           true≢false (sym held ∙ r.none_held 0));

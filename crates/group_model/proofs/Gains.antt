@@ -8,7 +8,7 @@ use Rattle.std.specs.Prelude.{◌==◌}
 use Rattle.std.specs.Ordering.{eq_by_cmp}
 use Rattle.repo_plan.specs.declared.part.Part.{Part}
 use Rattle.sorted_lists.specs.SortedList.{contains, keys, value_of, with_value, Rises}
-use Rattle.repo_plan.specs.Parts.{Pair, pair_cmp, part_cmp, pair_of, part_of, record_of, parts_of, parts_after, parent}
+use Rattle.repo_plan.specs.Parts.{Pair, pair_cmp, part_cmp, pair_of, part_of, record_of, parts_of, last_part, parent}
 use Rattle.repo_plan.specs.declared.shape.Shape.{Shape}
 use Rattle.repo_plan.specs.Plan.{is_wanted, is_claimed}
 use Rattle.repo_plan.proofs.Orders.{exact_parts}
@@ -18,10 +18,10 @@ use Rattle.repo_plan.proofs.Changes.{unclaimed_at}
 use Rattle.repo_plan.proofs.Changes.{at_set}
 use Rattle.repo_object.specs.Objects.{Post, contents_of, shape_in}
 use Rattle.group_model.specs.Publications.{Logs, last_of, count, shape_at}
-use Rattle.group_model.specs.Member.{Member, member_holds, member_hides, plan_of, gains, tries_of, with_tries}
+use Rattle.group_model.specs.Member.{Member, member_holds, has_deleted, plan_of, gains, tries_of, with_tries}
 use Rattle.group_model.specs.Member.{with_each_tried}
 use Rattle.group_model.specs.Changes.{publishes, takes}
-use Rattle.group_model.specs.Sound.{IsSoundMember, IsPublished, IsKnown, IsHeldSoundly, IsHiddenSoundly}
+use Rattle.group_model.specs.Sound.{IsSoundMember, IsPublished, IsKnown, IsHeldSoundly, IsDeletedSoundly}
 use Rattle.group_model.proofs.Lists.{contains-insert_keys, rises_insert_keys}
 use Rattle.group_model.proofs.Plans.{IsWanted, wanted_parts}
 use Rattle.group_model.proofs.Members.{known_published, known_more, Keeps, wanted_kept, Grows, counts_grown}
@@ -42,7 +42,7 @@ pub record Gain (ls : Logs) (old new : Member) : Type 0 where
   pub with_parent : (t : Part) → member_holds new t ≡ true → member_holds old t ≡ false
       → member_holds new (parent (shape_at ls (pair_of t)) t) ≡ true
   pub not_hidden : (t : Part) → member_holds new t ≡ true → member_holds old t ≡ false
-      → member_hides old (pair_of t) ≡ false
+      → has_deleted old (pair_of t) ≡ false
 
 pub keeps : (ls : Logs) (old new : Member) → Gain ls old new → Keeps old new
 keeps ls old new g = record { knows = g.knows; held = g.held; hidden = g.hidden }
@@ -66,11 +66,11 @@ module _ (ls : Logs) (j : ℕ) (old new : Member) (g : Gain ls old new) (s : IsS
     }
   ]
 
-  pub hidden_after : (pair : Pair) → member_hides new pair ≡ true → IsHiddenSoundly new pair
+  pub hidden_after : (pair : Pair) → has_deleted new pair ≡ true → IsDeletedSoundly new pair
   hidden_after pair h =
-      let was : member_hides old pair ≡ true =
+      let was : has_deleted old pair ≡ true =
       subst (λ (xs : List Pair). contains pair_cmp xs pair ≡ true) g.hidden h in
-      let r : IsHiddenSoundly old pair = s.hidden pair was in
+      let r : IsDeletedSoundly old pair = s.hidden pair was in
       record {
         known = known_more old.known new.known pair g.knows r.known;
         none_held =
@@ -79,7 +79,7 @@ module _ (ls : Logs) (j : ℕ) (old new : Member) (g : Gain ls old new) (s : IsS
       }
 
   pub own_held_after : (n : ℕ) → IsPublished ls (j, n)
-      → (member_hides new (j, n) ≡ true) ⊎ ((x : ℕ) → x ≤ count ls (j, n) → member_holds new (part_of (j, n) x) ≡ true)
+      → (has_deleted new (j, n) ≡ true) ⊎ ((x : ℕ) → x ≤ count ls (j, n) → member_holds new (part_of (j, n) x) ≡ true)
   own_held_after n p = elim (s.own_held n p) [
     | inl h ↦ inl (subst (λ (xs : List Pair). contains pair_cmp xs (j, n) ≡ true) (sym g.hidden) h)
     | inr f ↦ inr (λ x le. g.held (part_of (j, n) x) (f x le))
@@ -87,7 +87,7 @@ module _ (ls : Logs) (j : ℕ) (old new : Member) (g : Gain ls old new) (s : IsS
 
   pub wanted_after : (t : Part) → is_wanted (plan_of ls old) t ≡ true → member_holds new t ≡ false
       → is_wanted (plan_of ls new) t ≡ true
-  wanted_after t h out = wanted_kept ls ls old new t (keeps ls old new g) refl h out
+  wanted_after t h env = wanted_kept ls ls old new t (keeps ls old new g) refl h env
 
 -- the same gain with other claims, machine or attempts
 pub same_gain : (ls : Logs) (old new other : Member) → other.known ≡ new.known → other.held ≡ new.held
@@ -296,7 +296,7 @@ pub sound_publishes : (draw time : ℕ) (ls more : Logs) (j : ℕ) (o : Post) (m
 sound_publishes draw time ls more j o m within log g s =
     let seq : ℕ = length m.log + 1 in
     let n : Member = publishes draw time j o m in
-    let size : ℕ = parts_after (shape_in o) in
+    let size : ℕ = last_part (shape_in o) in
     let ts : List Part = parts_of (j, seq) size in
     let is_seq : seq ≡ last_of ls j + 1 = omega (arith, log) in
     let own : get_or m.known j 0 ≡ last_of ls j = s.own in
@@ -304,7 +304,7 @@ sound_publishes draw time ls more j o m within log g s =
     let knows_more : (p : ℕ) → get_or m.known p 0 ≤ get_or n.known p 0 =
     λ p. at_set_number m.known j seq p (omega (arith, own, log)) in
     let shape : shape_at more (j, seq) ≡ shape_in o = ap (λ (k : ℕ). shape_at more (j, k)) is_seq ∙ g.shape in
-    let counts : count more (j, seq) ≡ size = ap parts_after shape in
+    let counts : count more (j, seq) ≡ size = ap last_part shape in
     let new_held : (u : Part) → pair_of u ≡ (j, seq) → u.part ≤ size → member_holds n u ≡ true =
     λ u p l. held_new ts m u (subst (λ (q : Pair). In u (parts_of q size)) p (in_parts_of size u l)) in
     let either : (u : Part) → member_holds n u ≡ true
@@ -357,7 +357,7 @@ sound_publishes draw time ls more j o m within log g s =
               ∙ held_too ts m (parent (shape_at ls (pair_of u)) u) r.with_parent;
         }
       ];
-      hidden = λ pair h. let r : IsHiddenSoundly m pair = s.hidden pair h in record {
+      hidden = λ pair h. let r : IsDeletedSoundly m pair = s.hidden pair h in record {
         known = known_more m.known n.known pair knows_more r.known;
         none_held =
             λ x. false_from_ne_true (member_holds n (part_of pair x)) (λ yes. elim (either (part_of pair x) yes) [

@@ -9,48 +9,48 @@ use Rattle.repo_object.specs.Objects.{contents_of}
 use Rattle.repo_plan.proofs.Orders.{exact_parts}
 use Rattle.sorted_lists.proofs.Sets.{In, in_filter, contains_in, in_contains}
 use Rattle.group_model.specs.Publications.{all_parts, shape_at, post_at}
-use Rattle.group_model.specs.Member.{Member, member_holds, member_hides, insert_keys}
+use Rattle.group_model.specs.Member.{Member, member_holds, has_deleted, insert_keys}
 use Rattle.group_model.specs.World.{World, member, logs, someone_holds}
-use Rattle.group_model.specs.Steps.{settled_vector, settled_member, comes_to, new_parts}
+use Rattle.group_model.specs.Steps.{settled_vector, settled_member, is_gained, new_parts}
 use Rattle.group_model.specs.Sound.{IsSoundGroup, IsSoundMember, IsKnown, IsPublishedPart}
 use Rattle.group_model.specs.Reached.{InSoundGroups}
-use Rattle.group_model.specs.Settles.{learnt_member, IsGathering, HasGathered, GatheringSettles}
+use Rattle.group_model.specs.Settles.{learnt_member, IsGathering, HasFetchedAll, GatheringSettles}
 use Rattle.group_model.proofs.Lists.{from_filter, in_at, contains-insert_keys, rises_insert_keys}
 use Rattle.group_model.proofs.Parts.{from_all_parts}
 use Rattle.group_model.proofs.Plans.{IsWanted, wanted_from}
 use Rattle.group_model.proofs.Members.{known_published}
-use Rattle.group_model.proofs.Settles.{ComesTo, comes, comes_from, someone, someone_lists}
+use Rattle.group_model.proofs.Settles.{IsGained, comes, comes_from, someone, someone_lists}
 use Rattle.group_model.proofs.Parents.{parent_within, parent_of_parent}
 use Rattle.group_model.proofs.Among.{in_all_parts}
 use Rattle.group_model.proofs.SortedSets.{same_members}
 
 module _ (w : World) (j : ℕ) (new : Member) (within : j < length w.members) (group : IsSoundGroup w)
     (sound : IsSoundMember (logs w) j new) (gathering : IsGathering w (member w j) new)
-    (gathered : HasGathered w new) where
+    (gathered : HasFetchedAll w new) where
   abbrev m : Member
   m = member w j
 
   known_is : new.known ≡ settled_vector w
   known_is = ap (λ (x : Member). x.known) gathering.same
 
-  hides_same : (pair : Pair) → member_hides new pair ≡ member_hides m pair
-  hides_same pair = ap (λ (x : Member). member_hides x pair) gathering.same
+  deletes_same : (pair : Pair) → has_deleted new pair ≡ has_deleted m pair
+  deletes_same pair = ap (λ (x : Member). has_deleted x pair) gathering.same
 
   -- what it wants nobody holds
   nobody_holds : (t : Part) → IsWanted (logs w) new t → someone_holds w.members t ≡ true → ⊥
   nobody_holds t wanted holds = true≢false (sym holds ∙ gathered t (wanted_from (logs w) new t wanted))
 
-  knows_it : (t : Part) → In t (all_parts (logs w)) → ComesTo w m t → IsKnown new.known (pair_of t)
+  knows_it : (t : Part) → In t (all_parts (logs w)) → IsGained w m t → IsKnown new.known (pair_of t)
   knows_it t i c = record {
     from_one = (from_all_parts (logs w) t i).there.from_one;
-    to_known = subst (λ (v : List ℕ). t.seq ≤ get_or v t.publisher 0) (sym known_is) c.reported;
+    to_known = subst (λ (v : List ℕ). t.seq ≤ get_or v t.publisher 0) (sym known_is) c.received;
   }
 
-  not_hidden : (t : Part) → ComesTo w m t → member_hides new (pair_of t) ≡ false
-  not_hidden t c = hides_same (pair_of t) ∙ c.not_hidden
+  not_hidden : (t : Part) → IsGained w m t → has_deleted new (pair_of t) ≡ false
+  not_hidden t c = deletes_same (pair_of t) ∙ c.not_hidden
 
   -- what comes in a settle is held, its record first
-  has_record : (t : Part) → In t (all_parts (logs w)) → ComesTo w m t → member_holds new (record_of t) ≡ true
+  has_record : (t : Part) → In t (all_parts (logs w)) → IsGained w m t → member_holds new (record_of t) ≡ true
   has_record t i c = elim (cases_Bool (member_holds new (record_of t))) [
     | inl on ↦ on
     | inr off ↦
@@ -63,7 +63,7 @@ module _ (w : World) (j : ℕ) (new : Member) (within : j < length w.members) (g
         }) c.record_too)
   ]
 
-  has_parent : (t : Part) → In t (all_parts (logs w)) → ComesTo w m t
+  has_parent : (t : Part) → In t (all_parts (logs w)) → IsGained w m t
       → member_holds new (parent (shape_at (logs w) (pair_of t)) t) ≡ true
   has_parent t i c = go (cases_eq (parent (shape_at (logs w) (pair_of t)) t).part 0) where
     listed : Part
@@ -92,7 +92,7 @@ module _ (w : World) (j : ℕ) (new : Member) (within : j < length w.members) (g
           }) (someone_lists w group t c.someones))
     ]
 
-  has_it : (t : Part) → In t (all_parts (logs w)) → ComesTo w m t → member_holds new t ≡ true
+  has_it : (t : Part) → In t (all_parts (logs w)) → IsGained w m t → member_holds new t ≡ true
   has_it t i c = elim (cases_Bool (member_holds new t)) [
     | inl on ↦ on
     | inr off ↦
@@ -115,14 +115,14 @@ module _ (w : World) (j : ℕ) (new : Member) (within : j < length w.members) (g
       record { there = known_published (logs w) new.known (pair_of t) sound.known held.known; counted = held.counted }
 
   -- and what is held newly comes in a settle
-  comes_new : (t : Part) → member_holds new t ≡ true → member_holds m t ≡ false → comes_to w m t ≡ true
+  comes_new : (t : Part) → member_holds new t ≡ true → member_holds m t ≡ false → is_gained w m t ≡ true
   comes_new t h fresh =
       let held = sound.held t h in
       comes_from w m t (record {
-        reported = subst (λ (v : List ℕ). t.seq ≤ get_or v t.publisher 0) known_is held.known.to_known;
-        not_hidden = elim (cases_Bool (member_hides m (pair_of t))) [
+        received = subst (λ (v : List ℕ). t.seq ≤ get_or v t.publisher 0) known_is held.known.to_known;
+        not_hidden = elim (cases_Bool (has_deleted m (pair_of t))) [
           | inl on ↦
-              absurd (true≢false (sym h ∙ (sound.hidden (pair_of t) (hides_same (pair_of t) ∙ on)).none_held t.part))
+              absurd (true≢false (sym h ∙ (sound.hidden (pair_of t) (deletes_same (pair_of t) ∙ on)).none_held t.part))
           | inr off ↦ off
         ];
         someones = someone_has t h;
@@ -135,14 +135,15 @@ module _ (w : World) (j : ℕ) (new : Member) (within : j < length w.members) (g
     | inl was ↦ or_right (contains part_cmp (new_parts w m) t) (member_holds m t) was
     | inr free ↦ or_left (contains part_cmp (new_parts w m) t) (member_holds m t)
         (contains_in exact_parts (new_parts w m) t
-        (in_filter (comes_to w m) (all_parts (logs w)) t (in_all_parts (logs w) t (there_is t h)) (comes_new t h free)))
+        (in_filter (is_gained w m) (all_parts (logs w)) t (in_all_parts (logs w) t (there_is t h))
+        (comes_new t h free)))
   ]
 
   back : (t : Part) → (contains part_cmp (new_parts w m) t || member_holds m t) ≡ true → member_holds new t ≡ true
   back t h = elim (or_cases (contains part_cmp (new_parts w m) t) (member_holds m t) h) [
     | inl fresh ↦
-        let r : In t (all_parts (logs w)) × (comes_to w m t ≡ true) =
-        from_filter (comes_to w m) (all_parts (logs w)) t (in_contains exact_parts (new_parts w m) t fresh) in
+        let r : In t (all_parts (logs w)) × (is_gained w m t ≡ true) =
+        from_filter (is_gained w m) (all_parts (logs w)) t (in_contains exact_parts (new_parts w m) t fresh) in
         has_it t r.0 (comes w m t r.1)
     | inr was ↦ gathering.kept t was
   ]
@@ -168,5 +169,5 @@ module _ (w : World) (j : ℕ) (new : Member) (within : j < length w.members) (g
       ∙ ap (λ (held : List Part). let x : Member = record (learnt_member w m) { held = held } in x) held_is
 
 pub gathering_settles : InSoundGroups GatheringSettles
-gathering_settles out w group j new within sound gathering gathered =
+gathering_settles env w group j new within sound gathering gathered =
     gathered_member w j new within group sound gathering gathered

@@ -6,7 +6,7 @@ use Rattle.std.proofs.lemmas.Bool.{or_right, or_left, cases_Bool, and_from, not_
 use Rattle.std.proofs.lemmas.List.{length-set, get_or-map}
 use Rattle.std.specs.Ordering.{eq_by_cmp}
 use Rattle.repo_plan.specs.declared.part.Part.{Part}
-use Rattle.repo_plan.specs.Parts.{parts_after, Pair, pair_cmp, part_cmp, pair_of, parts_of}
+use Rattle.repo_plan.specs.Parts.{last_part, Pair, pair_cmp, part_cmp, pair_of, parts_of}
 use Rattle.sorted_lists.specs.SortedList.{contains}
 use Rattle.repo_plan.specs.Plan.{is_in}
 use Rattle.repo_plan.proofs.Orders.{exact_parts, exact_pairs}
@@ -15,8 +15,8 @@ use Rattle.repo_object.specs.Objects.{Post, shape_in, offered}
 use Rattle.repo_object.specs.Objects.Post.{Offers, Withdraws}
 use Rattle.group_model.specs.Publications.{Publication, pair_in, last_of, Logs, has_unwithdrawn, published, is_object}
 use Rattle.group_model.specs.Publications.{object_in}
-use Rattle.group_model.specs.Member.{Member, member_holds, member_hides, catalogued_under, member_hides_too}
-use Rattle.group_model.specs.Member.{member_hides_all, catalogued, is_listed}
+use Rattle.group_model.specs.Member.{Member, member_holds, has_deleted, catalogued_under, deletes_publication}
+use Rattle.group_model.specs.Member.{deletes_all, catalogued, is_listed}
 use Rattle.group_model.specs.Changes.{publishes}
 use Rattle.group_model.specs.World.{Environment, World, no_member, member, logs, logs_of}
 use Rattle.group_model.specs.Steps.{drawn, after_publish}
@@ -68,17 +68,17 @@ lasts_trans a b c x y = record {
   held = λ t h. elim (x.held t h) [ inl p ↦ y.held t p | inr q ↦ inr (y.hidden (pair_of t) q) ];
 }
 
-lasts_hides : (pair : Pair) (m : Member) → Lasts m (member_hides_too pair m)
-lasts_hides pair m = record {
+lasts_deletes : (pair : Pair) (m : Member) → Lasts m (deletes_publication pair m)
+lasts_deletes pair m = record {
   log = take-length m.log;
   known = λ p. omega arith;
   hidden =
       λ q h.
-      contains-insert_key exact_pairs pair m.hidden q ∙ or_right (eq_by_cmp pair_cmp q pair) (member_hides m q) h;
+      contains-insert_key exact_pairs pair m.hidden q ∙ or_right (eq_by_cmp pair_cmp q pair) (has_deleted m q) h;
   held = λ t h. elim (cases_Bool (is_in pair t)) [
     | inl y ↦
         inr (contains-insert_key exact_pairs pair m.hidden (pair_of t)
-        ∙ or_left (eq_by_cmp pair_cmp (pair_of t) pair) (member_hides m (pair_of t))
+        ∙ or_left (eq_by_cmp pair_cmp (pair_of t) pair) (has_deleted m (pair_of t))
         (ap (eq_by_cmp pair_cmp (pair_of t)) (eq_same exact_pairs pair (pair_of t) y)
         ∙ eq_itself exact_pairs (pair_of t)))
     | inr n ↦
@@ -87,11 +87,11 @@ lasts_hides pair m = record {
   ];
 }
 
-lasts_hides_all : (ps : List Publication) (m : Member) → Lasts m (member_hides_all ps m)
-lasts_hides_all [] m = lasts_refl m
-lasts_hides_all (p ∷ ps) m =
-    lasts_trans m (member_hides_too (pair_in p) m) (member_hides_all ps (member_hides_too (pair_in p) m))
-    (lasts_hides (pair_in p) m) (lasts_hides_all ps (member_hides_too (pair_in p) m))
+lasts_deletes_all : (ps : List Publication) (m : Member) → Lasts m (deletes_all ps m)
+lasts_deletes_all [] m = lasts_refl m
+lasts_deletes_all (p ∷ ps) m =
+    lasts_trans m (deletes_publication (pair_in p) m) (deletes_all ps (deletes_publication (pair_in p) m))
+    (lasts_deletes (pair_in p) m) (lasts_deletes_all ps (deletes_publication (pair_in p) m))
 
 -- ---- a world
 
@@ -135,19 +135,19 @@ lasts_beside m new l k x h =
     lasts_with m new l (λ p. subst (λ (v : List ℕ). get_or m.known p 0 ≤ get_or v p 0) (sym k) (omega arith)) x
     (λ t y. ap (λ (held : List Part). contains part_cmp held t) h ∙ y)
 
-pub lasts_publish : (out : Environment) (w : World) (j : ℕ) (o : Post) → j < length w.members → IsSoundGroup w
-    → AllLast w (after_publish out w j o)
-lasts_publish out w j o l s =
+pub lasts_publish : (env : Environment) (w : World) (j : ℕ) (o : Post) → j < length w.members → IsSoundGroup w
+    → AllLast w (after_publish env w j o)
+lasts_publish env w j o l s =
     let m : Member = member w j in
-    let new : Member = publishes (drawn out w j) w.time j o m in
+    let new : Member = publishes (drawn env w j) w.time j o m in
     let own : get_or m.known j 0 ≡ last_of (logs w) j = (s.members j l).own in
     let log : length m.log ≡ last_of (logs w) j =
     sym (ap length (get_or-map (λ (x : Member). x.log) w.members j no_member [] l)) in
-    lasts_set w (after_publish out w j o) j new refl (record {
+    lasts_set w (after_publish env w j o) j new refl (record {
       log = take-append_seam m.log (o ∷ []);
       known = λ p. at_set_number m.known j (length m.log + 1) p (omega (arith, own, log));
       hidden = λ pair h. h;
-      held = λ t h. inl (held_too (parts_of (j, length m.log + 1) (parts_after (shape_in o))) m t h);
+      held = λ t h. inl (held_too (parts_of (j, length m.log + 1) (last_part (shape_in o))) m t h);
     })
 
 -- ---- what an event publishes
@@ -171,17 +171,17 @@ pub record PostsOne (old new : Logs) (quiet : Type 0) : Type 0 where
   pub is : new ≡ logs_of (set before publisher changed)
 
 -- what is hidden was hidden before, or is an object
-abbrev pub HidesObjects : Logs → Member → Member → Type 0
-HidesObjects ls old new = (pair : Pair) → member_hides new pair ≡ true
-    → (member_hides old pair ≡ true) ⊎ IsOffered ls pair
+abbrev pub DeletesObjects : Logs → Member → Member → Type 0
+DeletesObjects ls old new = (pair : Pair) → has_deleted new pair ≡ true
+    → (has_deleted old pair ≡ true) ⊎ IsOffered ls pair
 
-abbrev pub AllHideObjects : World → World → Type 0
-AllHideObjects w new = (j : ℕ) → j < length w.members → HidesObjects (logs w) (member w j) (member new j)
+abbrev pub AllDeleteObjects : World → World → Type 0
+AllDeleteObjects w new = (j : ℕ) → j < length w.members → DeletesObjects (logs w) (member w j) (member new j)
 
 -- what holds of the group after an event, where some events publish nothing
 pub record GoesOn (w new : World) (quiet : Type 0) : Type 0 where
   pub last : AllLast w new
-  pub hides : AllHideObjects w new
+  pub hides : AllDeleteObjects w new
   pub posted : (logs new ≡ logs w) ⊎ PostsOne (logs w) (logs new) quiet
 
 -- ---- where nothing is published
@@ -189,9 +189,9 @@ pub record GoesOn (w new : World) (quiet : Type 0) : Type 0 where
 -- a member's change that takes nothing back, and hides objects alone
 pub record Moves (ls : Logs) (old new : Member) : Type 0 where
   pub lasts : Lasts old new
-  pub hides : HidesObjects ls old new
+  pub hides : DeletesObjects ls old new
 
-same_hidden : (ls : Logs) (old new : Member) → new.hidden ≡ old.hidden → HidesObjects ls old new
+same_hidden : (ls : Logs) (old new : Member) → new.hidden ≡ old.hidden → DeletesObjects ls old new
 same_hidden ls old new e pair h = inl (ap (λ (x : List Pair). contains pair_cmp x pair) (sym e) ∙ h)
 
 pub moves_with : (ls : Logs) (old new : Member) → new.log ≡ old.log
@@ -210,11 +210,11 @@ moves_beside ls old new l k h held = record {
 }
 
 hides_all : (ls : Logs) (ps : List Publication) (m : Member) → ((p : Publication) → In p ps → IsOffered ls (pair_in p))
-    → HidesObjects ls m (member_hides_all ps m)
+    → DeletesObjects ls m (deletes_all ps m)
 hides_all ls [] m each pair h = inl h
 hides_all ls (p ∷ ps) m each pair h =
-    elim (hides_all ls ps (member_hides_too (pair_in p) m) (λ q i. each q (inr i)) pair h) [
-      | inl now ↦ elim (or_cases (eq_by_cmp pair_cmp pair (pair_in p)) (member_hides m pair)
+    elim (hides_all ls ps (deletes_publication (pair_in p) m) (λ q i. each q (inr i)) pair h) [
+      | inl now ↦ elim (or_cases (eq_by_cmp pair_cmp pair (pair_in p)) (has_deleted m pair)
           (sym (contains-insert_key exact_pairs (pair_in p) m.hidden pair) ∙ now)) [
             | inl same ↦
                 inr (subst (IsOffered ls) (sym (eq_same exact_pairs pair (pair_in p) same)) (each p (inl refl)))
@@ -224,11 +224,11 @@ hides_all ls (p ∷ ps) m each pair h =
     ]
 
 pub moves_deletes : (ls : Logs) (m : Member) (name : List Component)
-    → Moves ls m (member_hides_all (catalogued_under ls m name) m)
+    → Moves ls m (deletes_all (catalogued_under ls m name) m)
 moves_deletes ls m name =
     let ps : List Publication = catalogued_under ls m name in
     record {
-      lasts = lasts_hides_all ps m;
+      lasts = lasts_deletes_all ps m;
       hides = hides_all ls ps m (λ p i.
           let f : In p (catalogued ls m) × (is_equal_name (object_in p).name name ≡ true) =
           from_filter (λ q. is_equal_name (object_in q).name name) (catalogued ls m) p i in
@@ -241,18 +241,19 @@ moves_deletes ls m name =
           });
     }
 
-pub hides_at : (ls : Logs) (ms : List Member) (i : ℕ) (m : Member) → HidesObjects ls (get_or ms i no_member) m → (j : ℕ)
-    → HidesObjects ls (get_or ms j no_member) (get_or (set ms i m) j no_member)
-hides_at ls [] i m h j pair x = inl x
-hides_at ls (y ∷ ys) zero m h zero pair x = h pair x
-hides_at ls (y ∷ ys) zero m h (suc j) pair x = inl x
-hides_at ls (y ∷ ys) (suc i) m h zero pair x = inl x
-hides_at ls (y ∷ ys) (suc i) m h (suc j) pair x = hides_at ls ys i m h j pair x
+pub deletes_at : (ls : Logs) (ms : List Member) (i : ℕ) (m : Member) → DeletesObjects ls (get_or ms i no_member) m
+    → (j : ℕ)
+    → DeletesObjects ls (get_or ms j no_member) (get_or (set ms i m) j no_member)
+deletes_at ls [] i m h j pair x = inl x
+deletes_at ls (y ∷ ys) zero m h zero pair x = h pair x
+deletes_at ls (y ∷ ys) zero m h (suc j) pair x = inl x
+deletes_at ls (y ∷ ys) (suc i) m h zero pair x = inl x
+deletes_at ls (y ∷ ys) (suc i) m h (suc j) pair x = deletes_at ls ys i m h j pair x
 
 -- nothing is published, and nothing taken back
 pub record Quietly (w new : World) : Type 0 where
   pub last : AllLast w new
-  pub hides : AllHideObjects w new
+  pub hides : AllDeleteObjects w new
   pub logs : logs new ≡ logs w
 
 pub quietly : {w new : World} {quiet : Type 0} → Quietly w new → GoesOn w new quiet
@@ -263,21 +264,21 @@ pub quiet_set : (w new : World) (i : ℕ) (m : Member) → new.members ≡ set w
 quiet_set w new i m e log h = record {
   last = lasts_set w new i m e h.lasts;
   hides =
-      λ j l pair x. hides_at (logs w) w.members i m h.hides j pair
-      (ap (λ (ms : List Member). member_hides (get_or ms j no_member) pair) (sym e) ∙ x);
+      λ j l pair x. deletes_at (logs w) w.members i m h.hides j pair
+      (ap (λ (ms : List Member). has_deleted (get_or ms j no_member) pair) (sym e) ∙ x);
   logs = ap logs_of e ∙ same_logs w.members i m log;
 }
 
 pub quiet_same : (w new : World) → new.members ≡ w.members → Quietly w new
 quiet_same w new e = record {
   last = lasts_same w new e;
-  hides = λ j l pair x. inl (ap (λ (ms : List Member). member_hides (get_or ms j no_member) pair) (sym e) ∙ x);
+  hides = λ j l pair x. inl (ap (λ (ms : List Member). has_deleted (get_or ms j no_member) pair) (sym e) ∙ x);
   logs = ap logs_of e;
 }
 
-pub then_hide : (a b c : World) → AllLast a b → AllHideObjects a b → logs b ≡ logs a → AllHideObjects b c
-    → AllHideObjects a c
-then_hide a b c last x same y j l pair h = elim (y j (subst (λ (n : ℕ). j < n) (sym last.width) l) pair h) [
+pub then_delete : (a b c : World) → AllLast a b → AllDeleteObjects a b → logs b ≡ logs a → AllDeleteObjects b c
+    → AllDeleteObjects a c
+then_delete a b c last x same y j l pair h = elim (y j (subst (λ (n : ℕ). j < n) (sym last.width) l) pair h) [
   | inl was ↦ x j l pair was
   | inr object ↦ inr (subst (λ (ls : Logs). IsOffered ls pair) same object)
 ]
@@ -285,6 +286,6 @@ then_hide a b c last x same y j l pair h = elim (y j (subst (λ (n : ℕ). j < n
 pub then_quiet : (a b c : World) → Quietly a b → Quietly b c → Quietly a c
 then_quiet a b c x y = record {
   last = then_lasts a b c x.last y.last;
-  hides = then_hide a b c x.last x.hides x.logs y.hides;
+  hides = then_delete a b c x.last x.hides x.logs y.hides;
   logs = y.logs ∙ x.logs;
 }

@@ -24,6 +24,6 @@ pub mod MemberLimits
 pub mod Limits
 pub mod ReachedLimits
 pub mod Withdrawals
-pub mod HiddenObjects
+pub mod DeletedObjects
 pub mod SettledLists
 pub mod PublicLaws

@@ -14,7 +14,7 @@ use Rattle.sorted_lists.proofs.Ranges.{length-numbers}
 use Rattle.repo_plan.proofs.Known.{unclaimed_rises}
 use Rattle.svs_sync.specs.declared.fired.Fired.{Fired}
 use Rattle.svs_sync.specs.declared.fired.Fired.TheVariants.{Early, Quiet, Send}
-use Rattle.svs_sync.specs.KeptVector.{Keeper, steady_kept, hears_kept}
+use Rattle.svs_sync.specs.SyncStates.{SyncState, steady_joined, hears_joined}
 use Rattle.svs_vector.specs.Vectors.{covers}
 use Rattle.repo_object.specs.Objects.{Post, contents_of}
 use Rattle.repo_object.specs.Objects.Post.{Offers, Withdraws}
@@ -23,18 +23,19 @@ use Rattle.repo_process.specs.Processes.{Process, BlockState, indexes, starting,
 use Rattle.repo_process.specs.Processes.BlockState.{Unknown, Already, Waiting, Whole}
 use Rattle.repo_command.specs.declared.command.Command.{Command}
 use Rattle.repo_command.specs.declared.command.Command.TheVariants.{Insert, Check, Delete}
-use Rattle.group_model.specs.Member.{Member, plan_of, tries_of, catalogued_under, member_hides_too, member_hides_all}
+use Rattle.group_model.specs.Member.{Member, plan_of, tries_of, catalogued_under, deletes_publication, deletes_all}
 use Rattle.group_model.specs.Changes.{publishes, learns, resets, restarts, takes, member_with_claim}
 use Rattle.group_model.specs.Changes.{member_with_process, member_starts}
-use Rattle.group_model.specs.Events.{SyncInterest, Came, Event}
-use Rattle.group_model.specs.Events.Came.{Nothing, Its, Another}
+use Rattle.group_model.specs.Events.{SyncInterest, Response, Event}
+use Rattle.group_model.specs.Events.Response.{Nothing, Its, Another}
 use Rattle.group_model.specs.World.{Tally, Issued, World, Environment, no_member, member, with_member, logs, logs_of}
 use Rattle.group_model.specs.World.{sent_at}
-use Rattle.group_model.specs.Steps.{drawn, claim_at, to_claim, open_at, timer_at, reports_too_much, came_from, came_as}
+use Rattle.group_model.specs.Steps.{drawn, claim_at, to_claim, unclaimed_at, timer_at, exceeds_log, response_from}
+use Rattle.group_model.specs.Steps.{response_read}
 use Rattle.group_model.specs.Steps.{new_parts, settled_member, after_gathering, syncs_of, planned_parts, fetched_parts}
 use Rattle.group_model.specs.Steps.{attempts_for, attempts_made, fetches, can_start, block_at, with_process_at}
 use Rattle.group_model.specs.Steps.{after_event, after_events, after_publish, after_deliver, after_hear, after_fire}
-use Rattle.group_model.specs.Steps.{after_reset, after_claiming, after_part, after_came, after_settle, after_fetch}
+use Rattle.group_model.specs.Steps.{after_reset, after_claiming, after_part, after_response, after_settle, after_fetch}
 use Rattle.group_model.specs.Steps.{after_command, after_order, after_block}
 use Rattle.group_model.proofs.PublishedCounts.{HasFew, one_published, few_published, few_new}
 use Rattle.group_model.proofs.MemberLimits.{HasFewBlocks, few_in, mem_change, mem_beside, mem_machine, mem_process}
@@ -126,10 +127,10 @@ more_tally s w h = tally_more s (s + 1) w.tally (omega arith) h.tally
 
 -- ---- each event
 
-within_publish : (out : Environment) (s : ℕ) (w : World) (j : ℕ) (o : Post) → HasFew o → IsWithinSteps s w
-    → IsWithinSteps (s + 1) (after_publish out w j o)
-within_publish out s w j o few h =
-    let m : Member = publishes (drawn out w j) w.time j o (member w j) in
+within_publish : (env : Environment) (s : ℕ) (w : World) (j : ℕ) (o : Post) → HasFew o → IsWithinSteps s w
+    → IsWithinSteps (s + 1) (after_publish env w j o)
+within_publish env s w j o few h =
+    let m : Member = publishes (drawn env w j) w.time j o (member w j) in
     record {
       time = let x : w.time ≤ s * 1000000000 = h.time in omega (arith, x);
       sent = more_sent s w _ h;
@@ -154,11 +155,11 @@ within_claim s w j f (Some t) h =
     (more_tally s w h) h
 
 -- one part came, and perhaps one attempt was made
-within_part : (out : Environment) (s : ℕ) (w : World) (j f : ℕ) (t : Part) (made : ℕ) → made ≤ 1 → HasSmallPackets out w
+within_part : (env : Environment) (s : ℕ) (w : World) (j f : ℕ) (t : Part) (made : ℕ) → made ≤ 1 → HasSmallPackets env w
     → IsWithinSteps s w
     → IsWithinSteps (s + 1)
-    (after_part out (record w { tally = record w.tally { attempts = w.tally.attempts + made } }) j f t)
-within_part out s w j f t made one size h =
+    (after_part env (record w { tally = record w.tally { attempts = w.tally.attempts + made } }) j f t)
+within_part env s w j f t made one size h =
     within_set s (s + 1) w j (takes f t (member w j)) w.sent w.issued _ (omega arith) refl
     (mem_beside s (s + 1) (member w j) _ refl refl refl (omega arith) (h.members j)) (same_sent s w h) (record {
       delivered = let x : w.tally.delivered ≤ s * 240 = h.tally.delivered in omega (arith, x);
@@ -166,7 +167,7 @@ within_part out s w j f t made one size h =
       parts = let x : w.tally.parts ≤ s * s * 160808 = h.tally.parts in omega (arith, x, next_square s);
       octets =
           let x : w.tally.octets ≤ s * s * 1415110400 = h.tally.octets in
-          let y : out.size (logs w) t ≤ 8800 = size t in omega (arith, x, y, next_square s);
+          let y : env.size (logs w) t ≤ 8800 = size t in omega (arith, x, y, next_square s);
     }) h
 
 within_tried : (s : ℕ) (w : World) (made : ℕ) → made ≤ 1 → IsWithinSteps s w
@@ -180,44 +181,45 @@ within_tried s w made one h =
       octets = let x : w.tally.octets ≤ s * s * 1415110400 = h.tally.octets in omega (arith, x, next_square s);
     }) h
 
-within_came : (out : Environment) (s : ℕ) (w : World) (j f : ℕ) (c : Option Part) (came : Came) (made : ℕ) → made ≤ 1
-    → HasSmallPackets out w → IsWithinSteps s w
+within_came : (env : Environment) (s : ℕ) (w : World) (j f : ℕ) (c : Option Part) (came : Response) (made : ℕ)
+    → made ≤ 1
+    → HasSmallPackets env w → IsWithinSteps s w
     → IsWithinSteps (s + 1)
-    (after_came out (record w { tally = record w.tally { attempts = w.tally.attempts + made } }) j f c came)
-within_came out s w j f None came made one size h = within_tried s w made one h
-within_came out s w j f (Some t) Nothing made one size h = within_tried s w made one h
-within_came out s w j f (Some t) Its made one size h = within_part out s w j f t made one size h
-within_came out s w j f (Some t) Another made one size h = within_part out s w j f t made one size h
+    (after_response env (record w { tally = record w.tally { attempts = w.tally.attempts + made } }) j f c came)
+within_came env s w j f None came made one size h = within_tried s w made one h
+within_came env s w j f (Some t) Nothing made one size h = within_tried s w made one h
+within_came env s w j f (Some t) Its made one size h = within_part env s w j f t made one size h
+within_came env s w j f (Some t) Another made one size h = within_part env s w j f t made one size h
 
-within_reset : (out : Environment) (s : ℕ) (w : World) (j : ℕ) (sent : List SyncInterest) → length sent ≤ (s + 1) * 16
-    → IsWithinSteps s w → IsWithinSteps (s + 1) (record (after_reset out w j) { sent = sent })
-within_reset out s w j sent few h =
-    within_set s (s + 1) w j (resets (drawn out w j) w.time (member w j)) sent w.issued w.tally (omega arith) refl
+within_reset : (env : Environment) (s : ℕ) (w : World) (j : ℕ) (sent : List SyncInterest) → length sent ≤ (s + 1) * 16
+    → IsWithinSteps s w → IsWithinSteps (s + 1) (record (after_reset env w j) { sent = sent })
+within_reset env s w j sent few h =
+    within_set s (s + 1) w j (resets (drawn env w j) w.time (member w j)) sent w.issued w.tally (omega arith) refl
     (mem_machine s (member w j) _ (omega arith) refl (h.members j).blocks (h.members j)) few (more_tally s w h) h
 
-within_fire : (out : Environment) (s : ℕ) (w : World) (j : ℕ) (f : Fired) → IsWithinSteps s w
-    → IsWithinSteps (s + 1) (after_fire out w j f)
-within_fire out s w j Early h = within_stays s w h
-within_fire out s w j Quiet h = within_reset out s w j w.sent (same_sent s w h) h
-within_fire out s w j Send h = within_reset out s w j _ (more_sent s w _ h) h
+within_fire : (env : Environment) (s : ℕ) (w : World) (j : ℕ) (f : Fired) → IsWithinSteps s w
+    → IsWithinSteps (s + 1) (after_fire env w j f)
+within_fire env s w j Early h = within_stays s w h
+within_fire env s w j Quiet h = within_reset env s w j w.sent (same_sent s w h) h
+within_fire env s w j Send h = within_reset env s w j _ (more_sent s w _ h) h
 
-one_draw : (time : ℕ) (reported known : List ℕ) (draw : ℕ) (k : Keeper) (heard : Option (List ℕ))
-    → (hears_kept time reported known draw k heard).draws ≤ k.draws + 1
-one_draw time reported known draw k None = go (covers reported known) _ where
+one_draw : (time : ℕ) (received known : List ℕ) (draw : ℕ) (k : SyncState) (heard : Option (List ℕ))
+    → (hears_joined time received known draw k heard).draws ≤ k.draws + 1
+one_draw time received known draw k None = go (covers received known) _ where
   go : (b : Bool) (deadline : ℕ)
-      → (cond b (steady_kept time draw k)
-      (record k { heard = Some reported; deadline = deadline; draws = k.draws + 1 })).draws
+      → (cond b (steady_joined time draw k)
+      (record k { heard = Some received; deadline = deadline; draws = k.draws + 1 })).draws
       ≤ k.draws + 1
   go true deadline = omega arith
   go false deadline = omega arith
-one_draw time reported known draw k (Some v) = omega arith
+one_draw time received known draw k (Some v) = omega arith
 
-within_deliver : (out : Environment) (s : ℕ) (w : World) (j : ℕ) (reported : List ℕ) → IsWithinSteps s w
-    → IsWithinSteps (s + 1) (after_deliver out w j reported)
-within_deliver out s w j reported h =
+within_deliver : (env : Environment) (s : ℕ) (w : World) (j : ℕ) (received : List ℕ) → IsWithinSteps s w
+    → IsWithinSteps (s + 1) (after_deliver env w j received)
+within_deliver env s w j received h =
     let m : Member = member w j in
-    within_set s (s + 1) w j (learns (drawn out w j) w.time reported m) w.sent w.issued _ (omega arith) refl
-    (mem_machine s m _ (one_draw w.time reported m.known (drawn out w j) m.machine m.machine.heard) refl
+    within_set s (s + 1) w j (learns (drawn env w j) w.time received m) w.sent w.issued _ (omega arith) refl
+    (mem_machine s m _ (one_draw w.time received m.known (drawn env w j) m.machine m.machine.heard) refl
     (h.members j).blocks (h.members j)) (same_sent s w h) (record {
       delivered = let x : w.tally.delivered ≤ s * 240 = h.tally.delivered in omega (arith, x);
       attempts = let x : w.tally.attempts ≤ s * 65536 = h.tally.attempts in omega (arith, x);
@@ -225,21 +227,21 @@ within_deliver out s w j reported h =
       octets = let x : w.tally.octets ≤ s * s * 1415110400 = h.tally.octets in omega (arith, x, next_square s);
     }) h
 
-within_hear : (out : Environment) (s : ℕ) (w : World) (j : ℕ) (read : Option SyncInterest) → IsWithinSteps s w
-    → IsWithinSteps (s + 1) (after_hear out w j read)
-within_hear out s w j None h = within_stays s w h
-within_hear out s w j (Some sync) h = go (reports_too_much w j sync) where
-  go : (b : Bool) → IsWithinSteps (s + 1) (cond b w (after_deliver out w j sync.vector))
+within_hear : (env : Environment) (s : ℕ) (w : World) (j : ℕ) (read : Option SyncInterest) → IsWithinSteps s w
+    → IsWithinSteps (s + 1) (after_hear env w j read)
+within_hear env s w j None h = within_stays s w h
+within_hear env s w j (Some sync) h = go (exceeds_log w j sync) where
+  go : (b : Bool) → IsWithinSteps (s + 1) (cond b w (after_deliver env w j sync.vector))
   go true = within_stays s w h
-  go false = within_deliver out s w j sync.vector h
+  go false = within_deliver env s w j sync.vector h
 
 -- ---- insertions
 
-hides_beside : (ps : List Publication) (m : Member)
-    → ((member_hides_all ps m).machine ≡ m.machine) × ((member_hides_all ps m).attempts ≡ m.attempts)
-    × ((member_hides_all ps m).processes ≡ m.processes) × ((member_hides_all ps m).log ≡ m.log)
-hides_beside [] m = (refl, refl, refl, refl)
-hides_beside (p ∷ ps) m = hides_beside ps (member_hides_too (pair_in p) m)
+deletes_beside : (ps : List Publication) (m : Member)
+    → ((deletes_all ps m).machine ≡ m.machine) × ((deletes_all ps m).attempts ≡ m.attempts)
+    × ((deletes_all ps m).processes ≡ m.processes) × ((deletes_all ps m).log ≡ m.log)
+deletes_beside [] m = (refl, refl, refl, refl)
+deletes_beside (p ∷ ps) m = deletes_beside ps (deletes_publication (pair_in p) m)
 
 within_command : (s : ℕ) (w : World) (issued : List Issued) (j : ℕ) (command : Command) → IsShortInsertion command
     → IsWithinSteps s w → IsWithinSteps (s + 1) (after_command (record w { issued = issued }) j command)
@@ -270,8 +272,8 @@ within_command s w issued j (Check process) short h =
     (let x : w.time ≤ s * 1000000000 = h.time in omega (arith, x)) (more_tally s w h) h
 within_command s w issued j (Delete name) short h =
     let m : Member = member w j in
-    let b = hides_beside (catalogued_under (logs w) m name) m in
-    within_set s (s + 1) w j (member_hides_all (catalogued_under (logs w) m name) m) w.sent issued w.tally (omega arith)
+    let b = deletes_beside (catalogued_under (logs w) m name) m in
+    within_set s (s + 1) w j (deletes_all (catalogued_under (logs w) m name) m) w.sent issued w.tally (omega arith)
     b.3 (mem_beside s (s + 1) m _ b.0 b.1 b.2 (omega arith) (h.members j)) (same_sent s w h) (more_tally s w h) h
 
 within_order : (s : ℕ) (w : World) (j : ℕ) (read : Result (ℕ × Command) ℕ) → IsInRange (Event.Order j read)
@@ -287,14 +289,14 @@ within_process old new w j number p l few h =
     (short_process (member w j).processes number p few (h.members j).blocks) l (h.members j))
     (let a : length w.sent ≤ old * 16 = h.sent in omega (arith, a, l)) (tally_more old new w.tally l h.tally) h
 
-within_block : (out : Environment) (s : ℕ) (w : World) (j process : ℕ) (state : BlockState) → HasFewBlocks state
-    → IsWithinSteps s w → IsWithinSteps (s + 1) (after_block out w j process state)
-within_block out s w j process Unknown few h = within_stays s w h
-within_block out s w j process Already few h = within_stays s w h
-within_block out s w j process (Waiting p) few h = within_process s (s + 1) w j process p (omega arith) few h
-within_block out s w j process (Whole p) few h =
+within_block : (env : Environment) (s : ℕ) (w : World) (j process : ℕ) (state : BlockState) → HasFewBlocks state
+    → IsWithinSteps s w → IsWithinSteps (s + 1) (after_block env w j process state)
+within_block env s w j process Unknown few h = within_stays s w h
+within_block env s w j process Already few h = within_stays s w h
+within_block env s w j process (Waiting p) few h = within_process s (s + 1) w j process p (omega arith) few h
+within_block env s w j process (Whole p) few h =
     let size : length (contents_of (Offers (object_of p))) ≡ length (indexes p) = length-map (indexes p) _ in
-    within_publish out s (with_process_at w j process (closed p)) j (Offers (object_of p)) (omega (arith, size, few))
+    within_publish env s (with_process_at w j process (closed p)) j (Offers (object_of p)) (omega (arith, size, few))
     (within_process s s w j process (closed p) (omega arith) few h)
 
 -- ---- a settle and a fetch
@@ -306,13 +308,13 @@ length_syncs : (k : ℕ) (ms : List Member) → length (syncs_of k ms) ≡ lengt
 length_syncs k [] = refl
 length_syncs k (m ∷ ms) = ap suc (length_syncs (k + 1) ms)
 
-each_settled : (out : Environment) (w : World) (s k : ℕ) (ms : List Member)
+each_settled : (env : Environment) (w : World) (s k : ℕ) (ms : List Member)
     → ((j : ℕ) → IsMemberWithin s (get_or ms j no_member)) → (j : ℕ)
-    → IsMemberWithin (s + 1) (get_or (settle_each out w k ms) j no_member)
-each_settled out w s k [] each j = mem_more s (s + 1) no_member (omega arith) (each j)
-each_settled out w s k (m ∷ ms) each zero =
-    mem_machine s m (settles out w k m) (omega arith) refl (each zero).blocks (each zero)
-each_settled out w s k (m ∷ ms) each (suc j) = each_settled out w s (k + 1) ms (λ i. each (suc i)) j
+    → IsMemberWithin (s + 1) (get_or (settle_each env w k ms) j no_member)
+each_settled env w s k [] each j = mem_more s (s + 1) no_member (omega arith) (each j)
+each_settled env w s k (m ∷ ms) each zero =
+    mem_machine s m (settles env w k m) (omega arith) refl (each zero).blocks (each zero)
+each_settled env w s k (m ∷ ms) each (suc j) = each_settled env w s (k + 1) ms (λ i. each (suc i)) j
 
 at_most : {sum : ℕ} (n b : ℕ) → n ≤ 16 → sum ≤ n * b → sum ≤ 16 * b
 at_most n b l h = let a : n * b ≤ 16 * b = mul-le n b 16 b l (omega arith) in omega (arith, a, h)
@@ -321,21 +323,21 @@ pairs_of : (n : ℕ) → n ≤ 16 → n * (n - 1) ≤ 240
 pairs_of n l = let a : n * (n - 1) ≤ 16 * 15 = mul-le n (n - 1) 16 15 l (omega (arith, l)) in omega (arith, a)
 
 -- after a settle, with machines that were reset or not
-within_settled : (out : Environment) (s : ℕ) (w : World) (ms : List Member) → s ≤ 100000 → length w.members ≤ 16
-    → HasSmallPackets out w → IsWithinSteps s w → logs_of ms ≡ logs w
+within_settled : (env : Environment) (s : ℕ) (w : World) (ms : List Member) → s ≤ 100000 → length w.members ≤ 16
+    → HasSmallPackets env w → IsWithinSteps s w → logs_of ms ≡ logs w
     → ((j : ℕ) → IsMemberWithin (s + 1) (get_or ms j no_member))
-    → IsWithinSteps (s + 1) (record (after_gathering out w) { members = ms })
-within_settled out s w ms l few size h same each =
+    → IsWithinSteps (s + 1) (record (after_gathering env w) { members = ms })
+within_settled env s w ms l few size h same each =
     let gained : sum_by (λ m. length (new_parts w m)) w.members ≤ 16 * (s * 20101) =
     at_most (length w.members) (s * 20101) few
     (sized (λ (m : Member). length (new_parts w m)) (s * 20101) w.members (few_new w s h)) in
-    let octets_of : (m : Member) → sum_by (out.size (logs w)) (new_parts w m) ≤ s * 176888800 = λ m.
-    (let a : sum_by (out.size (logs w)) (new_parts w m) ≤ length (new_parts w m) * 8800 =
-    sized (out.size (logs w)) 8800 (new_parts w m) size in
+    let octets_of : (m : Member) → sum_by (env.size (logs w)) (new_parts w m) ≤ s * 176888800 = λ m.
+    (let a : sum_by (env.size (logs w)) (new_parts w m) ≤ length (new_parts w m) * 8800 =
+    sized (env.size (logs w)) 8800 (new_parts w m) size in
     let b : length (new_parts w m) ≤ s * 20101 = few_new w s h m in omega (arith, a, b)) in
-    let octets : sum_by (λ m. sum_by (out.size (logs w)) (new_parts w m)) w.members ≤ 16 * (s * 176888800) =
+    let octets : sum_by (λ m. sum_by (env.size (logs w)) (new_parts w m)) w.members ≤ 16 * (s * 176888800) =
     at_most (length w.members) (s * 176888800) few
-    (sized (λ (m : Member). sum_by (out.size (logs w)) (new_parts w m)) (s * 176888800) w.members octets_of) in
+    (sized (λ (m : Member). sum_by (env.size (logs w)) (new_parts w m)) (s * 176888800) w.members octets_of) in
     record {
       time = let x : w.time ≤ s * 1000000000 = h.time in omega (arith, x);
       sent =
@@ -362,11 +364,11 @@ within_settled out s w ms l few size h same each =
       };
     }
 
-within_settle : (out : Environment) (s : ℕ) (w : World) → s ≤ 100000 → length w.members ≤ 16 → HasSmallPackets out w
-    → IsWithinSteps s w → IsWithinSteps (s + 1) (after_settle out w)
-within_settle out s w l few size h =
-    within_settled out s w (settle_each out w 0 w.members) l few size h (logs_settled out w 0 w.members)
-    (each_settled out w s 0 w.members h.members)
+within_settle : (env : Environment) (s : ℕ) (w : World) → s ≤ 100000 → length w.members ≤ 16 → HasSmallPackets env w
+    → IsWithinSteps s w → IsWithinSteps (s + 1) (after_settle env w)
+within_settle env s w l few size h =
+    within_settled env s w (settle_each env w 0 w.members) l few size h (logs_settled env w 0 w.members)
+    (each_settled env w s 0 w.members h.members)
 
 each_gathered : (w : World) (s : ℕ) (ms : List Member) → ((j : ℕ) → IsMemberWithin s (get_or ms j no_member)) → (j : ℕ)
     → IsMemberWithin (s + 1) (get_or (map (settled_member w) ms) j no_member)
@@ -376,28 +378,28 @@ each_gathered w s (m ∷ ms) each zero =
 each_gathered w s (m ∷ ms) each (suc j) = each_gathered w s ms (λ i. each (suc i)) j
 
 pub gathering_within : GatheringStaysWithin
-gathering_within out s w l few size h =
-    within_settled out s w (map (settled_member w) w.members) l few size h (logs_gathered w w.members)
+gathering_within env s w l few size h =
+    within_settled env s w (map (settled_member w) w.members) l few size h (logs_gathered w w.members)
     (each_gathered w s w.members h.members)
 
-within_fetch : (out : Environment) (s : ℕ) (w : World) (j tries loss : ℕ) → tries ≤ 16 → HasSmallPackets out w
-    → IsWithinSteps s w → IsWithinSteps (s + 1) (after_fetch out w j tries loss)
-within_fetch out s w j tries loss l size h =
+within_fetch : (env : Environment) (s : ℕ) (w : World) (j tries loss : ℕ) → tries ≤ 16 → HasSmallPackets env w
+    → IsWithinSteps s w → IsWithinSteps (s + 1) (after_fetch env w j tries loss)
+within_fetch env s w j tries loss l size h =
     let m : Member = member w j in
     let ts : List Part = planned_parts w j in
-    let n : Member = fetches out w j tries loss m in
-    let some : length ts ≤ 4096 = take_short 4096 (open_at w j) in
-    let came : length (fetched_parts out w j tries loss) ≤ length ts = filter_short _ ts in
-    let each : (t : Part) → attempts_for out w j tries loss t ≤ 16 = λ t. few_attempts out w j tries loss t l in
-    let made : attempts_made out w j tries loss ≤ length ts * 16 = sized (attempts_for out w j tries loss) 16 ts each in
-    let octets : sum_by (out.size (logs w)) (fetched_parts out w j tries loss)
-    ≤ length (fetched_parts out w j tries loss) * 8800 =
-    sized (out.size (logs w)) 8800 (fetched_parts out w j tries loss) size in
-    let rises : Rises part_cmp ts = rises_take 4096 (open_at w j) (unclaimed_rises (plan_of (logs w) m)) in
+    let n : Member = fetches env w j tries loss m in
+    let some : length ts ≤ 4096 = take_short 4096 (unclaimed_at w j) in
+    let came : length (fetched_parts env w j tries loss) ≤ length ts = filter_short _ ts in
+    let each : (t : Part) → attempts_for env w j tries loss t ≤ 16 = λ t. few_attempts env w j tries loss t l in
+    let made : attempts_made env w j tries loss ≤ length ts * 16 = sized (attempts_for env w j tries loss) 16 ts each in
+    let octets : sum_by (env.size (logs w)) (fetched_parts env w j tries loss)
+    ≤ length (fetched_parts env w j tries loss) * 8800 =
+    sized (env.size (logs w)) 8800 (fetched_parts env w j tries loss) size in
+    let rises : Rises part_cmp ts = rises_take 4096 (unclaimed_at w j) (unclaimed_rises (plan_of (logs w) m)) in
     within_set s (s + 1) w j n w.sent w.issued _ (omega arith) refl
     (mem_change s (s + 1) m n (omega arith) (λ t.
     let a : tries_of n.attempts t ≤ tries_of m.attempts t + 16 =
-    each_tried_at (attempts_for out w j tries loss) ts m.attempts t rises each in
+    each_tried_at (attempts_for env w j tries loss) ts m.attempts t rises each in
     omega (arith, a)) (h.members j).blocks (omega arith) (h.members j))
     (same_sent s w h) (record {
       delivered = let x : w.tally.delivered ≤ s * 240 = h.tally.delivered in omega (arith, x);
@@ -411,45 +413,45 @@ within_fetch out s w j tries loss l size h =
 -- ---- any event
 
 pub within_after : StaysWithin
-within_after out s w (Event.Publish j o) l few size r h = within_publish out s w j (Offers o) r h
-within_after out s w (Event.Withdraw j seq) l few size r h = within_publish out s w j (Withdraws seq) (omega arith) h
-within_after out s w (Event.Deliver k j) l few size r h = within_deliver out s w j (sent_at w k).vector h
-within_after out s w (Event.Sync k) l few size r h = within_stays s w h
-within_after out s w (Event.Advance ms) l few size r h =
+within_after env s w (Event.Publish j o) l few size r h = within_publish env s w j (Offers o) r h
+within_after env s w (Event.Withdraw j seq) l few size r h = within_publish env s w j (Withdraws seq) (omega arith) h
+within_after env s w (Event.Deliver k j) l few size r h = within_deliver env s w j (sent_at w k).vector h
+within_after env s w (Event.Sync k) l few size r h = within_stays s w h
+within_after env s w (Event.Advance ms) l few size r h =
     within_same s (s + 1) w (w.time + ms) w.issued w.tally (omega arith)
     (let x : w.time ≤ s * 1000000000 = h.time in omega (arith, x, r)) (more_tally s w h) h
-within_after out s w (Event.Fire j) l few size r h = within_fire out s w j (timer_at w j) h
-within_after out s w (Event.Restart j) l few size r h =
-    within_set s (s + 1) w j (restarts (drawn out w j) w.time (member w j)) w.sent w.issued w.tally (omega arith) refl
+within_after env s w (Event.Fire j) l few size r h = within_fire env s w j (timer_at w j) h
+within_after env s w (Event.Restart j) l few size r h =
+    within_set s (s + 1) w j (restarts (drawn env w j) w.time (member w j)) w.sent w.issued w.tally (omega arith) refl
     (mem_machine s (member w j) _ (omega arith) refl (λ i p e. absurd cc) (h.members j)) (same_sent s w h)
     (more_tally s w h) h
-within_after out s w (Event.Vector j) l few size r h = within_stays s w h
-within_after out s w (Event.Catalogue j) l few size r h = within_stays s w h
-within_after out s w (Event.Claim j f) l few size r h = within_claim s w j f (to_claim w j) h
-within_after out s w (Event.Lose j f) l few size r h =
+within_after env s w (Event.Vector j) l few size r h = within_stays s w h
+within_after env s w (Event.Catalogue j) l few size r h = within_stays s w h
+within_after env s w (Event.Claim j f) l few size r h = within_claim s w j f (to_claim w j) h
+within_after env s w (Event.Lose j f) l few size r h =
     within_set s (s + 1) w j (member_with_claim f None (member w j)) w.sent w.issued w.tally (omega arith) refl
     (mem_beside s (s + 1) (member w j) _ refl refl refl (omega arith) (h.members j)) (same_sent s w h)
     (more_tally s w h) h
-within_after out s w (Event.Answer j f q) l few size r h =
-    within_came out s w j f (claim_at w j f) (came_from out w q (claim_at w j f)) 1 (omega arith) size h
-within_after out s w (Event.Fetch j tries loss) l few size r h = within_fetch out s w j tries loss r size h
-within_after out s w Event.Settle l few size r h = within_settle out s w l few size h
-within_after out s w (Event.Dump j t) l few size r h = within_stays s w h
-within_after out s w (Event.Hear j read) l few size r h = within_hear out s w j read h
-within_after out s w (Event.Ask j find) l few size r h = within_stays s w h
-within_after out s w (Event.Feed j f read) l few size r h =
+within_after env s w (Event.Answer j f q) l few size r h =
+    within_came env s w j f (claim_at w j f) (response_from env w q (claim_at w j f)) 1 (omega arith) size h
+within_after env s w (Event.Fetch j tries loss) l few size r h = within_fetch env s w j tries loss r size h
+within_after env s w Event.Settle l few size r h = within_settle env s w l few size h
+within_after env s w (Event.Dump j t) l few size r h = within_stays s w h
+within_after env s w (Event.Hear j read) l few size r h = within_hear env s w j read h
+within_after env s w (Event.Ask j find) l few size r h = within_stays s w h
+within_after env s w (Event.Feed j f read) l few size r h =
     let none : w.tally.attempts + 0 ≡ w.tally.attempts = omega arith in
     subst (λ (n : ℕ). IsWithinSteps (s + 1)
-    (after_came out (record w { tally = record w.tally { attempts = n } }) j f (claim_at w j f)
-    (came_as w read (claim_at w j f)))) none
-    (within_came out s w j f (claim_at w j f) (came_as w read (claim_at w j f)) 0 (omega arith) size h)
-within_after out s w (Event.Order j read) l few size r h = within_order s w j read r h
-within_after out s w (Event.Issue j client command) l few size r h = within_command s w _ j command r h
-within_after out s w (Event.Block j process index content) l few size r h =
-    within_block out s w j process (block_at w j process index content)
+    (after_response env (record w { tally = record w.tally { attempts = n } }) j f (claim_at w j f)
+    (response_read w read (claim_at w j f)))) none
+    (within_came env s w j f (claim_at w j f) (response_read w read (claim_at w j f)) 0 (omega arith) size h)
+within_after env s w (Event.Order j read) l few size r h = within_order s w j read r h
+within_after env s w (Event.Issue j client command) l few size r h = within_command s w _ j command r h
+within_after env s w (Event.Block j process index content) l few size r h =
+    within_block env s w j process (block_at w j process index content)
     (few_in index content (value_of nat_cmp (member w j).processes process) (λ q e. (h.members j).blocks process q e)) h
-within_after out s w Event.Summary l few size r h = within_stays s w h
-within_after out s w Event.Traffic l few size r h = within_stays s w h
+within_after env s w Event.Summary l few size r h = within_stays s w h
+within_after env s w Event.Traffic l few size r h = within_stays s w h
 
 pub more_within : MoreIsWithin
 more_within s more w l h = record {
@@ -462,12 +464,12 @@ more_within s more w l h = record {
 }
 
 pub within_all : RunsStayWithin
-within_all out s w [] sound l few taken r size h =
+within_all env s w [] sound l few taken r size h =
     let e : s ≡ s + 0 = omega arith in subst (λ (n : ℕ). IsWithinSteps n w) e h
-within_all out s w (e ∷ es) sound l few taken r size h =
-    let width : length (after_event out w e).members ≡ length w.members = (lasts out w e taken.0 sound).width in
+within_all env s w (e ∷ es) sound l few taken r size h =
+    let width : length (after_event env w e).members ≡ length w.members = (lasts env w e taken.0 sound).width in
     let later : s + 1 + length es ≡ s + suc (length es) = omega arith in
-    subst (λ (n : ℕ). IsWithinSteps n (after_events out (after_event out w e) es)) later
-    (within_all out (s + 1) (after_event out w e) es (sound_after out w e taken.0 sound) (omega (arith, l))
+    subst (λ (n : ℕ). IsWithinSteps n (after_events env (after_event env w e) es)) later
+    (within_all env (s + 1) (after_event env w e) es (sound_after env w e taken.0 sound) (omega (arith, l))
     (subst (λ (n : ℕ). n ≤ 16) (sym width) few) taken.1 r.1 size.1
-    (within_after out s w e (omega (arith, l)) few size.0 r.0 h))
+    (within_after env s w e (omega (arith, l)) few size.0 r.0 h))

@@ -3,11 +3,11 @@ use Rattle.std.proofs.Common.{◌≡◌, inl, inr, ℕ, ◌-◌, ◌≤◌, ◌<
 use Rattle.std.proofs.Common.{arith}
 use Rattle.std.proofs.lemmas.Bool.{true≢false, cases_Bool}
 use Rattle.std.proofs.lemmas.List.{get_or-take, get_or-map, length-take}
-use Rattle.repo_plan.specs.Parts.{Pair, part_of, parts_after}
+use Rattle.repo_plan.specs.Parts.{Pair, part_of, last_part}
 use Rattle.repo_object.specs.Objects.{Post, offered, shape_in}
 use Rattle.std.specs.Prelude.{is_some}
 use Rattle.group_model.specs.Publications.{published, last_of, post_at, no_post}
-use Rattle.group_model.specs.Member.{Member, member_hides, knows_withdrawn}
+use Rattle.group_model.specs.Member.{Member, has_deleted, knows_withdrawn}
 use Rattle.group_model.specs.World.{World, no_member, member, logs}
 use Rattle.group_model.specs.Steps.{after_events}
 use Rattle.group_model.specs.Sound.{IsSoundGroup, IsPublished}
@@ -57,24 +57,24 @@ module _ (w new : World) (last : AllLast w new) (pair : Pair) (there : IsPublish
       short n l = let e : length (take n l) ≡ min n (length l) = length-take n l in omega (arith, e)
 
 pub entries_stay : InSoundGroups EntriesStay
-entries_stay out w s es j pair taken l is_listed =
-    let new : World = after_events out w es in
-    let last : AllLast w new = nothing_taken_back out w s es taken in
-    let sound : IsSoundGroup new = sound_after_all out es w taken s in
+entries_stay env w s es j pair taken l is_listed =
+    let new : World = after_events env w es in
+    let last : AllLast w new = nothing_taken_back env w s es taken in
+    let sound : IsSoundGroup new = sound_after_all env es w taken s in
     let within : j < length new.members = subst (λ (n : ℕ). j < n) (sym last.width) l in
-    let was : BelongsInCatalogue (logs w) (member w j) pair = (lists_those out w s j pair l).exactly.0 is_listed in
+    let was : BelongsInCatalogue (logs w) (member w j) pair = (lists_those env w s j pair l).exactly.0 is_listed in
     let same : post_at (logs new) pair ≡ post_at (logs w) pair = same_post w new last pair was.published in
     record {
       object = same;
-      listed = elim (cases_Bool (member_hides (member new j) pair)) [
+      listed = elim (cases_Bool (has_deleted (member new j) pair)) [
         | inl hidden ↦ inr (inl hidden)
         | inr free ↦ elim (cases_Bool (knows_withdrawn (published (logs new)) (member new j) pair)) [
           | inl withdrawn ↦ inr (inr withdrawn)
-          | inr unknown ↦ inl ((lists_those out new sound j pair within).exactly.1 (record {
+          | inr unknown ↦ inl ((lists_those env new sound j pair within).exactly.1 (record {
             published = record { from_one = was.published.from_one; to_last = longer w new last pair was.published };
             object = ap (λ (o : Post). is_some (offered o)) same ∙ was.object;
             held = λ x le. elim ((last.members j l).held (part_of pair x)
-                (was.held x (subst (λ (o : Post). x ≤ parts_after (shape_in o)) same le))) [
+                (was.held x (subst (λ (o : Post). x ≤ last_part (shape_in o)) same le))) [
                   | inl held ↦ held
                   | inr hid ↦ absurd (true≢false (sym hid ∙ free))
                 ];

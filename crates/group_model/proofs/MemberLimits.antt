@@ -6,7 +6,7 @@ use Rattle.repo_plan.specs.declared.part.Part.{Part}
 use Rattle.sorted_lists.specs.SortedList.{value_of, with_value}
 use Rattle.sorted_lists.proofs.Orders.{exact_numbers}
 use Rattle.sorted_lists.proofs.Sets.{value_of-with_value}
-use Rattle.svs_sync.specs.KeptVector.{Keeper}
+use Rattle.svs_sync.specs.SyncStates.{SyncState}
 use Rattle.repo_process.specs.Processes.{Process, BlockState, indexes, has_index, has_block, with_block, with_it}
 use Rattle.repo_process.specs.Processes.{is_whole, block_in}
 use Rattle.repo_process.specs.Processes.BlockState.{Unknown, Already, Waiting, Whole}
@@ -31,7 +31,7 @@ mem_change old new m n d a b l h = record {
 pub mem_beside : (old new : ℕ) (m n : Member) → n.machine ≡ m.machine → n.attempts ≡ m.attempts
     → n.processes ≡ m.processes → old ≤ new → IsMemberWithin old m → IsMemberWithin new n
 mem_beside old new m n k a p l h = mem_change old new m n
-    (let e : n.machine.draws ≡ m.machine.draws = ap (λ (x : Keeper). x.draws) k in omega (arith, e))
+    (let e : n.machine.draws ≡ m.machine.draws = ap (λ (x : SyncState). x.draws) k in omega (arith, e))
     (λ t.
     let e : tries_of n.attempts t ≡ tries_of m.attempts t = ap (λ (x : List (Part × ℕ)). tries_of x t) a in
     omega (arith, e))
@@ -63,7 +63,7 @@ short_process ps number p short each i q e =
 pub mem_process : (old new : ℕ) (m n : Member) → n.machine ≡ m.machine → n.attempts ≡ m.attempts → AreShort n.processes
     → old ≤ new → IsMemberWithin old m → IsMemberWithin new n
 mem_process old new m n k a short l h = mem_change old new m n
-    (let e : n.machine.draws ≡ m.machine.draws = ap (λ (x : Keeper). x.draws) k in omega (arith, e))
+    (let e : n.machine.draws ≡ m.machine.draws = ap (λ (x : SyncState). x.draws) k in omega (arith, e))
     (λ t.
     let e : tries_of n.attempts t ≡ tries_of m.attempts t = ap (λ (x : List (Part × ℕ)). tries_of x t) a in
     omega (arith, e))

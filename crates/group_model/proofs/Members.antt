@@ -4,23 +4,23 @@ use Rattle.std.proofs.Common.{length, get_or, refl, sym, ap, ◌∙◌, subst, a
 use Rattle.std.proofs.lemmas.List.{length-set}
 use Rattle.repo_plan.specs.declared.part.Part.{Part}
 use Rattle.sorted_lists.specs.SortedList.{contains}
-use Rattle.repo_plan.specs.Parts.{Pair, pair_cmp, pair_of, record_of, parent, parts_after}
+use Rattle.repo_plan.specs.Parts.{Pair, pair_cmp, pair_of, record_of, parent, last_part}
 use Rattle.repo_plan.specs.declared.shape.Shape.{Shape}
 use Rattle.repo_plan.specs.Plan.{is_wanted, is_claimed}
 use Rattle.repo_plan.proofs.Changes.{at_set, unclaimed_at}
 use Rattle.svs_vector.specs.Vectors.{join, covers}
 use Rattle.svs_vector.proofs.JoinLemmas.{join-at, length-join}
-use Rattle.svs_sync.specs.KeptVector.{Keeper, steady_kept, hears_kept}
+use Rattle.svs_sync.specs.SyncStates.{SyncState, steady_joined, hears_joined}
 use Rattle.group_model.specs.Publications.{Logs, last_of, count, shape_at}
 use Rattle.repo_process.specs.Processes.{Process}
 use Rattle.group_model.specs.Member.{Member, member_holds, plan_of}
 use Rattle.group_model.specs.Changes.{learns, member_with_claim}
-use Rattle.group_model.specs.Sound.{IsSoundMember, IsPublished, IsKnown, ReportsNoMore, IsConsistentVector}
+use Rattle.group_model.specs.Sound.{IsSoundMember, IsPublished, IsKnown, IsWithinLogs, IsConsistentVector}
 use Rattle.group_model.specs.Sound.{HeardConsistently}
-use Rattle.group_model.specs.Sound.{IsHeldSoundly, IsHiddenSoundly}
+use Rattle.group_model.specs.Sound.{IsHeldSoundly, IsDeletedSoundly}
 use Rattle.group_model.proofs.Plans.{IsWanted, wanted_parts, wanted_from}
 
-pub known_published : (ls : Logs) (v : List ℕ) (pair : Pair) → ReportsNoMore ls v → IsKnown v pair → IsPublished ls pair
+pub known_published : (ls : Logs) (v : List ℕ) (pair : Pair) → IsWithinLogs ls v → IsKnown v pair → IsPublished ls pair
 known_published ls v pair t k = record {
   from_one = k.from_one;
   to_last = let h : get_or v pair.0 0 ≤ last_of ls pair.0 = t pair.0 in omega (arith, h, k.to_known);
@@ -41,9 +41,9 @@ pub record Grows (old new : Logs) : Type 0 where
 
 pub counts_grown : (old new : Logs) → Grows old new → (pair : Pair) → IsPublished old pair
     → count new pair ≡ count old pair
-counts_grown old new g pair p = ap parts_after (g.shapes pair p)
+counts_grown old new g pair p = ap last_part (g.shapes pair p)
 
-pub no_more_grown : (old new : Logs) (v : List ℕ) → Grows old new → ReportsNoMore old v → ReportsNoMore new v
+pub no_more_grown : (old new : Logs) (v : List ℕ) → Grows old new → IsWithinLogs old v → IsWithinLogs new v
 no_more_grown old new v g t p =
     let a : get_or v p 0 ≤ last_of old p = t p in
     let b : last_of old p ≤ last_of new p = g.last p in omega (arith, a, b)
@@ -68,11 +68,11 @@ pub record Keeps (old new : Member) : Type 0 where
 pub wanted_kept : (ls more : Logs) (old new : Member) (t : Part) → Keeps old new
     → shape_at more (pair_of t) ≡ shape_at ls (pair_of t) → is_wanted (plan_of ls old) t ≡ true
     → member_holds new t ≡ false → is_wanted (plan_of more new) t ≡ true
-wanted_kept ls more old new t k same h out =
+wanted_kept ls more old new t k same h env =
     let w : IsWanted ls old t = wanted_parts ls old t h in
     wanted_from more new t (record {
       known = known_more old.known new.known (pair_of t) k.knows w.known;
-      counted = subst (λ (n : ℕ). t.part ≤ n) (sym (ap parts_after same)) w.counted;
+      counted = subst (λ (n : ℕ). t.part ≤ n) (sym (ap last_part same)) w.counted;
       with_record = elim w.with_record [
         | inl e ↦ inl e
         | inr r ↦ inr (record {
@@ -82,7 +82,7 @@ wanted_kept ls more old new t k same h out =
               ∙ k.held (parent (shape_at ls (pair_of t)) t) r.with_parent;
         })
       ];
-      not_held = out;
+      not_held = env;
       not_hidden = subst (λ (x : List Pair). contains pair_cmp x (pair_of t) ≡ false) (sym k.hidden) w.not_hidden;
     })
 
@@ -126,7 +126,7 @@ grown old new j m g own s = record {
 -- ---- what soundness doesn't speak of
 
 -- a change of the machine and of insertion processes alone
-pub with_machine : (ls : Logs) (j : ℕ) (m : Member) (machine : Keeper) (processes : List (ℕ × Process)) (next : ℕ)
+pub with_machine : (ls : Logs) (j : ℕ) (m : Member) (machine : SyncState) (processes : List (ℕ × Process)) (next : ℕ)
     → IsSoundMember ls j m → HeardConsistently ls machine.heard
     → IsSoundMember ls j (record m { machine = machine; processes = processes; next_process = next })
 with_machine ls j m machine processes next s h = record {
@@ -143,7 +143,8 @@ with_machine ls j m machine processes next s h = record {
   heard = h;
   held = s.held;
   hidden =
-      λ pair h. let r : IsHiddenSoundly m pair = s.hidden pair h in record { known = r.known; none_held = r.none_held };
+      λ pair h. let r : IsDeletedSoundly m pair =
+      s.hidden pair h in record { known = r.known; none_held = r.none_held };
   own_held = s.own_held;
   claimed = s.claimed;
   apart = s.apart;
@@ -151,7 +152,7 @@ with_machine ls j m machine processes next s h = record {
 
 -- ---- a member is told of a vector
 
-pub no_more_join : (ls : Logs) (v w : List ℕ) → ReportsNoMore ls v → ReportsNoMore ls w → ReportsNoMore ls (join v w)
+pub no_more_join : (ls : Logs) (v w : List ℕ) → IsWithinLogs ls v → IsWithinLogs ls w → IsWithinLogs ls (join v w)
 no_more_join ls v w a b p =
     let x : get_or v p 0 ≤ last_of ls p = a p in
     let y : get_or w p 0 ≤ last_of ls p = b p in
@@ -167,25 +168,26 @@ consistent_join ls v w a b = record {
   no_more = no_more_join ls v w a.no_more b.no_more;
 }
 
-heard_hears : (ls : Logs) (time draw : ℕ) (reported known : List ℕ) (k : Keeper) (heard : Option (List ℕ))
-    → IsConsistentVector ls reported → HeardConsistently ls heard
-    → HeardConsistently ls (hears_kept time reported known draw k heard).heard
-heard_hears ls time draw reported known k None t h = go (covers reported known) _ _ where
+heard_hears : (ls : Logs) (time draw : ℕ) (received known : List ℕ) (k : SyncState) (heard : Option (List ℕ))
+    → IsConsistentVector ls received → HeardConsistently ls heard
+    → HeardConsistently ls (hears_joined time received known draw k heard).heard
+heard_hears ls time draw received known k None t h = go (covers received known) _ _ where
   go : (b : Bool) (deadline draws : ℕ)
       → HeardConsistently ls
-      (cond b (steady_kept time draw k) (record k { heard = Some reported; deadline = deadline; draws = draws })).heard
+      (cond b (steady_joined time draw k)
+      (record k { heard = Some received; deadline = deadline; draws = draws })).heard
   go true deadline draws = tt
   go false deadline draws = t
-heard_hears ls time draw reported known k (Some v) t h = consistent_join ls v reported h t
+heard_hears ls time draw received known k (Some v) t h = consistent_join ls v received h t
 
-pub sound_learns : (draw time : ℕ) (ls : Logs) (j : ℕ) (reported : List ℕ) (m : Member) → IsConsistentVector ls reported
-    → IsSoundMember ls j m → IsSoundMember ls j (learns draw time reported m)
-sound_learns draw time ls j reported m t s =
-    let new : Member = learns draw time reported m in
-    let more : (p : ℕ) → get_or m.known p 0 ≤ get_or (join m.known reported) p 0 = join_more m.known reported in
+pub sound_learns : (draw time : ℕ) (ls : Logs) (j : ℕ) (received : List ℕ) (m : Member) → IsConsistentVector ls received
+    → IsSoundMember ls j m → IsSoundMember ls j (learns draw time received m)
+sound_learns draw time ls j received m t s =
+    let new : Member = learns draw time received m in
+    let more : (p : ℕ) → get_or m.known p 0 ≤ get_or (join m.known received) p 0 = join_more m.known received in
     let keeps : Keeps m new = record { knows = more; held = λ t h. h; hidden = refl } in
     record {
-      width = length-join m.known reported (s.width ∙ sym t.width) ∙ s.width;
+      width = length-join m.known received (s.width ∙ sym t.width) ∙ s.width;
       fetchers = s.fetchers;
       in_order = record {
         held = s.in_order.held;
@@ -193,14 +195,14 @@ sound_learns draw time ls j reported m t s =
         attempts = s.in_order.attempts;
         tried = s.in_order.tried;
       };
-      known = no_more_join ls m.known reported s.known t.no_more;
+      known = no_more_join ls m.known received s.known t.no_more;
       own =
           let a : get_or m.known j 0 ≡ last_of ls j = s.own in
-          let b : get_or reported j 0 ≤ last_of ls j = t.no_more j in
-          let c : get_or (join m.known reported) j 0 ≡ max (get_or m.known j 0) (get_or reported j 0) =
-          join-at m.known reported j in
+          let b : get_or received j 0 ≤ last_of ls j = t.no_more j in
+          let c : get_or (join m.known received) j 0 ≡ max (get_or m.known j 0) (get_or received j 0) =
+          join-at m.known received j in
           omega (arith, a, b, c);
-      heard = heard_hears ls time draw reported m.known m.machine m.machine.heard t s.heard;
+      heard = heard_hears ls time draw received m.known m.machine m.machine.heard t s.heard;
       held = λ u h.
           let r : IsHeldSoundly ls m.known m.held u = s.held u h in
           record {
@@ -210,7 +212,7 @@ sound_learns draw time ls j reported m t s =
             with_parent = r.with_parent;
           };
       hidden = λ pair h.
-          let r : IsHiddenSoundly m pair = s.hidden pair h in
+          let r : IsDeletedSoundly m pair = s.hidden pair h in
           record { known = known_more m.known _ pair more r.known; none_held = r.none_held };
       own_held = s.own_held;
       claimed =
@@ -237,7 +239,8 @@ sound_claims ls j f t m wanted free s = record {
   heard = s.heard;
   held = s.held;
   hidden =
-      λ pair h. let r : IsHiddenSoundly m pair = s.hidden pair h in record { known = r.known; none_held = r.none_held };
+      λ pair h. let r : IsDeletedSoundly m pair =
+      s.hidden pair h in record { known = r.known; none_held = r.none_held };
   own_held = s.own_held;
   claimed = λ g u e. elim (at_set m.claims (f - 1) g (Some t) u e) [
     | inl r ↦ let same : t ≡ u = cc in subst (λ (v : Part). is_wanted (plan_of ls m) v ≡ true) same wanted
@@ -271,7 +274,8 @@ sound_loses ls j f m s = record {
   heard = s.heard;
   held = s.held;
   hidden =
-      λ pair h. let r : IsHiddenSoundly m pair = s.hidden pair h in record { known = r.known; none_held = r.none_held };
+      λ pair h. let r : IsDeletedSoundly m pair =
+      s.hidden pair h in record { known = r.known; none_held = r.none_held };
   own_held = s.own_held;
   claimed = λ g u e. elim (at_set m.claims (f - 1) g None u e) [ inl r ↦ absurd cc | inr r ↦ s.claimed g u r.1 ];
   apart = λ g h u a b. elim (at_set m.claims (f - 1) g None u a) [

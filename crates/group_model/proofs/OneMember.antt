@@ -9,12 +9,12 @@ use Rattle.repo_plan.specs.declared.part.Part.{Part}
 use Rattle.sorted_lists.specs.SortedList.{contains}
 use Rattle.sorted_lists.proofs.Sets.{In}
 use Rattle.repo_plan.specs.Parts.{Pair, part_cmp, pair_cmp, pair_of, part_of, record_of, parent, parent_number}
-use Rattle.repo_plan.specs.Parts.{parts_after}
+use Rattle.repo_plan.specs.Parts.{last_part}
 use Rattle.repo_plan.specs.Plan.{wanted}
 use Rattle.repo_plan.proofs.Known.{contains-wanted}
 use Rattle.group_model.specs.Publications.{Logs, Publication, pair_in, parts_in, published, published_entry, last_of}
 use Rattle.group_model.specs.Publications.{count, post_at, shape_at, is_object, withdraws, is_unwithdrawn}
-use Rattle.group_model.specs.Member.{Member, plan_of, member_holds, member_hides, holds_all, is_listed, knows_withdrawn}
+use Rattle.group_model.specs.Member.{Member, plan_of, member_holds, has_deleted, holds_all, is_listed, knows_withdrawn}
 use Rattle.group_model.specs.Sound.{IsKnown}
 use Rattle.group_model.specs.OneMember.{KnowsAll, JoinsByItself}
 use Rattle.group_model.proofs.Lists.{each_all, same_filter, same_any, all_in}
@@ -42,13 +42,13 @@ listed_whole m ps each = same_filter (is_listed ps m) (is_unwithdrawn ps) ps (λ
 nothing_in : (xs : List Part) (x : Part) → xs ≡ [] → contains part_cmp xs x ≡ true → ⊥
 nothing_in xs x e c = true≢false (sym c ∙ ap (λ (ys : List Part). contains part_cmp ys x) e)
 
-module _ (logs : Logs) (m : Member) (reported : KnowsAll logs m.known) (clear : m.hidden ≡ [])
+module _ (logs : Logs) (m : Member) (received : KnowsAll logs m.known) (clear : m.hidden ≡ [])
     (nothing : wanted (plan_of logs m) ≡ []) where
   unwanted : (t : Part) → IsWanted logs m t → ⊥
   unwanted t want =
       nothing_in (wanted (plan_of logs m)) t nothing (contains-wanted (plan_of logs m) t ∙ wanted_from logs m t want)
 
-  not_hidden : (pair : Pair) → member_hides m pair ≡ false
+  not_hidden : (pair : Pair) → has_deleted m pair ≡ false
   not_hidden pair = ap (λ (xs : List Pair). contains pair_cmp xs pair) clear
 
   module _ (q : Publication) (there : IsIn logs q) where
@@ -59,14 +59,14 @@ module _ (logs : Logs) (m : Member) (reported : KnowsAll logs m.known) (clear : 
         subst (IsKnown m.known) (sym e) (record {
           from_one = there.there.from_one;
           to_known =
-              let a : last_of logs q.publisher ≤ get_or m.known q.publisher 0 = reported q.publisher within in
+              let a : last_of logs q.publisher ≤ get_or m.known q.publisher 0 = received q.publisher within in
               let b : q.seq ≤ last_of logs q.publisher = there.there.to_last in omega (arith, a, b);
         })
 
     counted : (t : Part) → IsPartOf t q → t.part ≤ count logs (pair_of t)
     counted t p =
         subst (λ (pair : Pair). t.part ≤ count logs pair) (sym p.pair)
-        (subst (λ (o : Post). t.part ≤ parts_after (shape_in o)) there.post p.counted)
+        (subst (λ (o : Post). t.part ≤ last_part (shape_in o)) there.post p.counted)
 
     its_record : (t : Part) → IsPartOf t q → member_holds m (record_of t) ≡ true
     its_record t p =
@@ -99,7 +99,7 @@ module _ (logs : Logs) (m : Member) (reported : KnowsAll logs m.known) (clear : 
       | inr e ↦ when_listed (parent (shape_at logs (pair_of t)) t) (record {
         pair = p.pair;
         counted =
-            subst (λ (o : Post). parent_number (shape_in o) t.part ≤ parts_after (shape_in q.post))
+            subst (λ (o : Post). parent_number (shape_in o) t.part ≤ last_part (shape_in q.post))
             (sym (ap (post_at logs) p.pair ∙ sym there.post))
             (parent_within (length (contents_of q.post)) t.part p.counted);
       })
@@ -112,6 +112,6 @@ module _ (logs : Logs) (m : Member) (reported : KnowsAll logs m.known) (clear : 
         let p : IsPartOf t q = from_parts_in q t it in when_listed t p (its_parent t p))
 
 pub joins_by_itself : JoinsByItself
-joins_by_itself logs m reported clear nothing =
+joins_by_itself logs m received clear nothing =
     ap (map published_entry)
-    (listed_whole m (published logs) (λ q i. whole logs m reported clear nothing q (in_published logs q i)))
+    (listed_whole m (published logs) (λ q i. whole logs m received clear nothing q (in_published logs q i)))

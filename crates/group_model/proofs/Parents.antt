@@ -3,7 +3,7 @@ use Rattle.std.proofs.Common.{◌≡◌, ℕ, ◌+◌, ◌-◌, ◌/◌, ◌≤�
 use Rattle.std.proofs.lemmas.Bool.{or_parts, leb-false, eqb-false}
 use Rattle.std.specs.Prelude.{nat_le, ◌==◌}
 use Rattle.repo_plan.specs.declared.part.Part.{Part}
-use Rattle.repo_plan.specs.Parts.{most_listed, index_packets, shape_of_segments, parts_after, parent_number, parent}
+use Rattle.repo_plan.specs.Parts.{most_listed, index_packets, shape_of_segments, last_part, parent_number, parent}
 use Rattle.repo_plan.specs.Parts.{pair_of, part_of}
 use Rattle.repo_plan.specs.declared.shape.Shape.{Shape}
 use Rattle.repo_plan.proofs.Parents.{by_record}
@@ -26,7 +26,7 @@ bounded index segments x e l some = go (nat_le segments most_listed) refl where
       let after : 200 < segments = leb-false segments 200 h in omega (arith, many, l, after)
 
 -- what lists a part is a record or an index packet
-parent_before : (segments x : ℕ) → x ≤ parts_after (shape_of_segments segments)
+parent_before : (segments x : ℕ) → x ≤ last_part (shape_of_segments segments)
     → parent_number (shape_of_segments segments) x ≤ index_packets segments
 parent_before segments x l = go (index_packets segments == 0 || nat_le x (index_packets segments)) refl where
   go : (b : Bool) → (index_packets segments == 0 || nat_le x (index_packets segments)) ≡ b
@@ -37,14 +37,14 @@ parent_before segments x l = go (index_packets segments == 0 || nat_le x (index_
       (or_parts (index_packets segments == 0) (nat_le x (index_packets segments)) h).0
 
 -- and so one of the publication's parts
-pub parent_within : (segments x : ℕ) → x ≤ parts_after (shape_of_segments segments)
-    → parent_number (shape_of_segments segments) x ≤ parts_after (shape_of_segments segments)
+pub parent_within : (segments x : ℕ) → x ≤ last_part (shape_of_segments segments)
+    → parent_number (shape_of_segments segments) x ≤ last_part (shape_of_segments segments)
 parent_within segments x l =
     let few : parent_number (shape_of_segments segments) x ≤ index_packets segments = parent_before segments x l in
     omega (arith, few)
 
 -- what lists a part is listed by the record
-pub parent_of_parent : (segments x : ℕ) → x ≤ parts_after (shape_of_segments segments)
+pub parent_of_parent : (segments x : ℕ) → x ≤ last_part (shape_of_segments segments)
     → parent_number (shape_of_segments segments) (parent_number (shape_of_segments segments) x) ≡ 0
 parent_of_parent segments x l =
     by_record (shape_of_segments segments) (parent_number (shape_of_segments segments) x)

@@ -7,7 +7,7 @@ use Rattle.std.specs.List.{flat_map}
 use Rattle.std.specs.Ordering.{nat_cmp}
 use Rattle.repo_plan.specs.declared.part.Part.{Part}
 use Rattle.sorted_lists.specs.SortedList.{Rises}
-use Rattle.repo_plan.specs.Parts.{Pair, part_cmp, pair_of, part_of, record_of, parts_of, parts_after}
+use Rattle.repo_plan.specs.Parts.{Pair, part_cmp, pair_of, part_of, record_of, parts_of, last_part}
 use Rattle.sorted_lists.specs.Range.{numbers_from}
 use Rattle.repo_plan.proofs.Orders.{exact_parts}
 use Rattle.sorted_lists.proofs.Orders.{nat_less, nat_itself, first_less, then_second}
@@ -107,18 +107,18 @@ publisher_within w pair h =
 
 pub record IsPartOf (t : Part) (q : Publication) : Type 0 where
   pub pair : pair_of t ≡ pair_in q
-  pub counted : t.part ≤ parts_after (shape_in q.post)
+  pub counted : t.part ≤ last_part (shape_in q.post)
 
 pub from_parts_in : (q : Publication) (t : Part) → In t (parts_in q) → IsPartOf t q
 from_parts_in q t i =
-    let r : (pair_of t ≡ pair_in q) × (t.part ≤ parts_after (shape_in q.post)) =
-    from_parts_of (pair_in q) (parts_after (shape_in q.post)) t i in
+    let r : (pair_of t ≡ pair_in q) × (t.part ≤ last_part (shape_in q.post)) =
+    from_parts_of (pair_in q) (last_part (shape_in q.post)) t i in
     record { pair = r.0; counted = r.1 }
 
 pub in_parts_in : (q : Publication) (t : Part) → IsPartOf t q → In t (parts_in q)
 in_parts_in q t h =
-    subst (λ (pair : Pair). In t (parts_of pair (parts_after (shape_in q.post)))) h.pair
-    (in_parts_of (parts_after (shape_in q.post)) t h.counted)
+    subst (λ (pair : Pair). In t (parts_of pair (last_part (shape_in q.post)))) h.pair
+    (in_parts_of (last_part (shape_in q.post)) t h.counted)
 
 pub from_all_parts : (ls : Logs) (t : Part) → In t (all_parts ls) → IsPublishedPart ls t
 from_all_parts ls t i =
@@ -129,7 +129,7 @@ from_all_parts ls t i =
       there = subst (IsPublished ls) (sym p.pair) q.there;
       counted =
           subst (λ (pair : Pair). t.part ≤ count ls pair) (sym p.pair)
-          (subst (λ (o : Post). t.part ≤ parts_after (shape_in o)) q.post p.counted);
+          (subst (λ (o : Post). t.part ≤ last_part (shape_in o)) q.post p.counted);
     }
 
 pub record_among : (ls : Logs) (t : Part) → In t (all_parts ls) → In (record_of t) (all_parts ls)
@@ -167,7 +167,7 @@ rises_numbered : (p s : ℕ) (os : List Post) → Rises part_cmp (flat_map parts
 rises_numbered p s [] = tt
 rises_numbered p s (o ∷ os) =
     let one : Publication = record { publisher = p; seq = s; post = o } in
-    rises_append exact_parts.total (parts_in one) _ (rises_numbers (p, s) 0 (parts_after (shape_in o) + 1))
+    rises_append exact_parts.total (parts_in one) _ (rises_numbers (p, s) 0 (last_part (shape_in o) + 1))
     (rises_numbered p (s + 1) os) (λ x y i k.
     let a : IsPartOf x one = from_parts_in one x i in
     let b : (y.publisher ≡ p) × (s + 1 ≤ y.seq) = of_numbered p (s + 1) os y k in

@@ -9,11 +9,11 @@ use Rattle.repo_plan.specs.declared.part.Part.{Part}
 use Rattle.sorted_lists.specs.SortedList.{contains, value_of}
 use Rattle.repo_plan.specs.Parts.{Pair, pair_cmp, part_cmp, pair_of, part_of, record_of, parent}
 use Rattle.repo_plan.specs.declared.shape.Shape.{Shape}
-use Rattle.repo_plan.specs.Plan.{is_wanted, shape_of, can_be_asked}
+use Rattle.repo_plan.specs.Plan.{is_wanted, shape_of, is_listed_part}
 use Rattle.repo_plan.proofs.Orders.{exact_parts, exact_pairs}
 use Rattle.sorted_lists.proofs.Sets.{eq_same}
 use Rattle.group_model.specs.Publications.{Logs, count, shape_at}
-use Rattle.group_model.specs.Member.{Member, member_holds, member_hides, reported_by, plan_of}
+use Rattle.group_model.specs.Member.{Member, member_holds, has_deleted, held_shapes, plan_of}
 use Rattle.group_model.specs.Sound.{IsKnown}
 use Rattle.repo_plan.specs.Plan
 use Rattle.repo_plan.proofs.Changes
@@ -26,14 +26,14 @@ other_part pair t z =
     false_from_ne_true (eq_by_cmp part_cmp (part_of pair 0) t)
     (λ e. true≢false (ap (λ (u : Part). u.part == 0) (eq_same exact_parts (part_of pair 0) t e) ∙ z))
 
-pub reported-at : (ls : Logs) (held : List Part) (pair : Pair)
-    → value_of pair_cmp (reported_by ls held) pair
+pub received-at : (ls : Logs) (held : List Part) (pair : Pair)
+    → value_of pair_cmp (held_shapes ls held) pair
     ≡ cond (contains part_cmp held (part_of pair 0)) (Some (shape_at ls pair)) None
-reported-at ls [] pair = refl
-reported-at ls (t ∷ ts) pair = go (reported-at ls ts pair) (t.part == 0) refl where
+received-at ls [] pair = refl
+received-at ls (t ∷ ts) pair = go (received-at ls ts pair) (t.part == 0) refl where
   here : (b : Bool) → eq_by_cmp pair_cmp pair (pair_of t) ≡ b
-      → cond b (Some (shape_at ls (pair_of t))) (value_of pair_cmp (reported_by ls ts) pair)
-      ≡ cond b (Some (shape_at ls pair)) (value_of pair_cmp (reported_by ls ts) pair)
+      → cond b (Some (shape_at ls (pair_of t))) (value_of pair_cmp (held_shapes ls ts) pair)
+      ≡ cond b (Some (shape_at ls pair)) (value_of pair_cmp (held_shapes ls ts) pair)
   here true e = ap (λ (q : Pair). Some (shape_at ls q)) (sym (eq_same exact_pairs pair (pair_of t) e))
   here false e = refl
 
@@ -41,7 +41,7 @@ reported-at ls (t ∷ ts) pair = go (reported-at ls ts pair) (t.part == 0) refl 
   either true b x = refl
   either false b x = refl
 
-  go : value_of pair_cmp (reported_by ls ts) pair
+  go : value_of pair_cmp (held_shapes ls ts) pair
       ≡ cond (contains part_cmp ts (part_of pair 0)) (Some (shape_at ls pair)) None
       → (z : Bool) → (t.part == 0) ≡ z
       → value_of pair_cmp
@@ -73,7 +73,7 @@ pub record IsWanted (ls : Logs) (m : Member) (t : Part) : Type 0 where
   pub counted : t.part ≤ count ls (pair_of t)
   pub with_record : (t.part ≡ 0) ⊎ IsListedIn ls m t
   pub not_held : member_holds m t ≡ false
-  pub not_hidden : member_hides m (pair_of t) ≡ false
+  pub not_hidden : has_deleted m (pair_of t) ≡ false
 
 known_from : (known : List ℕ) (pair : Pair) → (nat_le 1 pair.1 && nat_le pair.1 (get_or known pair.0 0)) ≡ true
     → IsKnown known pair
@@ -91,12 +91,13 @@ pub wanted_parts : (ls : Logs) (m : Member) (t : Part) → is_wanted (plan_of ls
 wanted_parts ls m t h =
     let w : Changes.IsWanted (plan_of ls m) t = Changes.wanted_parts (plan_of ls m) t h in
     let asked : (Plan.knows (plan_of ls m) (pair_of t) ≡ true)
-    × (can_be_asked m.held (shape_of (plan_of ls m) (pair_of t)) t ≡ true) =
+    × (is_listed_part m.held (shape_of (plan_of ls m) (pair_of t)) t ≡ true) =
     and_parts (Plan.knows (plan_of ls m) (pair_of t)) _ w.asked in
-    let can : can_be_asked m.held (cond (member_holds m (record_of t)) (Some (shape_at ls (pair_of t))) None) t ≡ true =
-    subst (λ (s : Option Shape). can_be_asked m.held s t ≡ true) (reported-at ls m.held (pair_of t)) asked.1 in
+    let can : is_listed_part m.held (cond (member_holds m (record_of t)) (Some (shape_at ls (pair_of t))) None) t
+    ≡ true =
+    subst (λ (s : Option Shape). is_listed_part m.held s t ≡ true) (received-at ls m.held (pair_of t)) asked.1 in
     let both : (t.part ≤ count ls (pair_of t)) × ((t.part ≡ 0) ⊎ IsListedIn ls m t) =
-    reported (member_holds m (record_of t)) refl can in
+    received (member_holds m (record_of t)) refl can in
     record {
       known = known_from m.known (pair_of t) asked.0;
       counted = both.0;
@@ -104,10 +105,10 @@ wanted_parts ls m t h =
       not_held = w.not_held;
       not_hidden = w.not_hidden;
     } where
-      reported : (b : Bool) → member_holds m (record_of t) ≡ b
-          → can_be_asked m.held (cond b (Some (shape_at ls (pair_of t))) None) t ≡ true
+      received : (b : Bool) → member_holds m (record_of t) ≡ b
+          → is_listed_part m.held (cond b (Some (shape_at ls (pair_of t))) None) t ≡ true
           → (t.part ≤ count ls (pair_of t)) × ((t.part ≡ 0) ⊎ IsListedIn ls m t)
-      reported true e c = elim (or_cases (t.part == 0) _ c) [
+      received true e c = elim (or_cases (t.part == 0) _ c) [
         | inl z ↦ let n : t.part ≡ 0 = eqb-true t.part 0 z in (omega (arith, n), inl n)
         | inr r ↦
             let both : (nat_le t.part (count ls (pair_of t)) ≡ true)
@@ -117,21 +118,23 @@ wanted_parts ls m t h =
               inr (record { with_record = e; with_parent = both.1 }),
             )
       ]
-      reported false e c = let n : t.part ≡ 0 = eqb-true t.part 0 c in (omega (arith, n), inl n)
+      received false e c = let n : t.part ≡ 0 = eqb-true t.part 0 c in (omega (arith, n), inl n)
 
 pub wanted_from : (ls : Logs) (m : Member) (t : Part) → IsWanted ls m t → is_wanted (plan_of ls m) t ≡ true
 wanted_from ls m t w =
-    let can : can_be_asked m.held (cond (member_holds m (record_of t)) (Some (shape_at ls (pair_of t))) None) t ≡ true =
+    let can : is_listed_part m.held (cond (member_holds m (record_of t)) (Some (shape_at ls (pair_of t))) None) t
+    ≡ true =
     asks (member_holds m (record_of t)) refl w.with_record in
     Changes.wanted_from (plan_of ls m) t (record {
       asked =
           and_from (Plan.knows (plan_of ls m) (pair_of t)) _ (knows_from m.known (pair_of t) w.known)
-          (subst (λ (s : Option Shape). can_be_asked m.held s t ≡ true) (sym (reported-at ls m.held (pair_of t))) can);
+          (subst (λ (s : Option Shape). is_listed_part m.held s t ≡ true)
+          (sym (received-at ls m.held (pair_of t))) can);
       not_held = w.not_held;
       not_hidden = w.not_hidden;
     }) where
       asks : (b : Bool) → member_holds m (record_of t) ≡ b → (t.part ≡ 0) ⊎ IsListedIn ls m t
-          → can_be_asked m.held (cond b (Some (shape_at ls (pair_of t))) None) t ≡ true
+          → is_listed_part m.held (cond b (Some (shape_at ls (pair_of t))) None) t ≡ true
       asks true e h = elim h [
         | inl z ↦ or_left (t.part == 0) _ (eq-eqb t.part 0 z)
         | inr r ↦

@@ -4,7 +4,7 @@ use Rattle.std.proofs.Common.{length, get_or, set, refl, sym, ap, ◌∙◌, sub
 use Rattle.std.proofs.lemmas.List.{length-map, length-append, length_push}
 use Rattle.std.proofs.lemmas.List.Sums.{sum_by-le}
 use Rattle.std.proofs.lemmas.List.Concat.{length-flat_map}
-use Rattle.repo_plan.specs.Parts.{parts_after}
+use Rattle.repo_plan.specs.Parts.{last_part}
 use Rattle.sorted_lists.specs.Range.{numbers_from}
 use Rattle.sorted_lists.proofs.Sets.{In}
 use Rattle.sorted_lists.proofs.Ranges.{length-numbers}
@@ -14,7 +14,7 @@ use Rattle.group_model.specs.Publications.{Logs, Publication, no_post, numbered_
 use Rattle.group_model.specs.Publications.{parts_in, all_parts}
 use Rattle.group_model.specs.Member.{Member}
 use Rattle.group_model.specs.World.{World, no_member, logs, logs_of}
-use Rattle.group_model.specs.Steps.{comes_to, new_parts}
+use Rattle.group_model.specs.Steps.{is_gained, new_parts}
 use Rattle.group_model.specs.Limits.{IsWithinSteps, PartsStayFew}
 use Rattle.group_model.proofs.Lists.{in_at}
 use Rattle.group_model.proofs.Parts.{in_published}
@@ -86,9 +86,9 @@ few_parts_in w s h q i =
     let there = in_published (logs w) q i in
     let few : length (contents_of q.post) ≤ 20000 =
     subst HasFew (sym there.post) (h.segments q.publisher (q.seq - 1)) in
-    let size : length (parts_in q) ≡ parts_after (shape_in q.post) + 1 =
-    length-map (numbers_from 0 (parts_after (shape_in q.post) + 1)) _
-    ∙ length-numbers 0 (parts_after (shape_in q.post) + 1) in
+    let size : length (parts_in q) ≡ last_part (shape_in q.post) + 1 =
+    length-map (numbers_from 0 (last_part (shape_in q.post) + 1)) _
+    ∙ length-numbers 0 (last_part (shape_in q.post) + 1) in
     omega (arith, few, index_few (length (contents_of q.post)) few, size)
 
 all_few : (w : World) (s : ℕ) → IsWithinSteps s w → length (all_parts (logs w)) ≤ s * 20101
@@ -105,5 +105,5 @@ few_parts s w l h = let all : length (all_parts (logs w)) ≤ s * 20101 = all_fe
 
 pub few_new : (w : World) (s : ℕ) → IsWithinSteps s w → (m : Member) → length (new_parts w m) ≤ s * 20101
 few_new w s h m =
-    let a : length (new_parts w m) ≤ length (all_parts (logs w)) = filter_short (comes_to w m) (all_parts (logs w)) in
+    let a : length (new_parts w m) ≤ length (all_parts (logs w)) = filter_short (is_gained w m) (all_parts (logs w)) in
     let b : length (all_parts (logs w)) ≤ s * 20101 = all_few w s h in omega (arith, a, b)

@@ -8,11 +8,11 @@ use Rattle.svs_sync.specs.Suppression.{periodic}
 use Rattle.repo_object.specs.Objects.{Post}
 use Rattle.group_model.specs.Publications.{no_post, numbered_publications, published_from, published}
 use Rattle.group_model.specs.Member.{Member}
-use Rattle.group_model.specs.World.{no_member, logs, logs_of, opening_world}
+use Rattle.group_model.specs.World.{no_member, logs, logs_of, initial_world}
 use Rattle.group_model.specs.Steps.{after_events}
 use Rattle.group_model.proofs.PublishedCounts.{HasFew}
 use Rattle.group_model.specs.Limits.{IsMemberWithin, IsWithinSteps, BeginsWithin, ReachedRunsStayWithin}
-use Rattle.group_model.proofs.Runs.{sound_opening}
+use Rattle.group_model.proofs.Runs.{sound_initial}
 use Rattle.group_model.proofs.Limits.{within_all}
 
 nothing_published : (p : ℕ) (f : ℕ → Member) (xs : List ℕ) → ((x : ℕ) → (f x).log ≡ [])
@@ -35,18 +35,18 @@ each_opening f [] j e n = n
 each_opening f (x ∷ xs) zero e n = e x
 each_opening f (x ∷ xs) (suc j) e n = each_opening f xs j e n
 
-pub within_opening : BeginsWithin
-within_opening out n =
+pub within_initial : BeginsWithin
+within_initial env n =
     let f : ℕ → Member = λ j. record no_member {
       known = replicate n 0;
-      machine = record { members = n; heard = None; deadline = periodic (out.draw j 0); draws = 1 };
+      machine = record { members = n; heard = None; deadline = periodic (env.draw j 0); draws = 1 };
     } in
     record {
       time = omega arith;
       sent = omega arith;
       published =
-          let e : published (logs (opening_world out n)) ≡ [] = nothing_published 0 f (numbers_from 0 n) (λ x. refl) in
-          let z : length (published (logs (opening_world out n))) ≡ 0 = ap length e in omega (arith, z);
+          let e : published (logs (initial_world env n)) ≡ [] = nothing_published 0 f (numbers_from 0 n) (λ x. refl) in
+          let z : length (published (logs (initial_world env n))) ≡ 0 = ap length e in omega (arith, z);
       segments = λ p k. no_objects f (numbers_from 0 n) p k (λ x. refl);
       members =
           λ j. each_opening f (numbers_from 0 n) j
@@ -56,13 +56,13 @@ within_opening out n =
     }
 
 pub reached_within : ReachedRunsStayWithin
-reached_within out n es few l taken r size =
+reached_within env n es few l taken r size =
     let f : ℕ → Member = λ j. record no_member {
       known = replicate n 0;
-      machine = record { members = n; heard = None; deadline = periodic (out.draw j 0); draws = 1 };
+      machine = record { members = n; heard = None; deadline = periodic (env.draw j 0); draws = 1 };
     } in
-    let wide : length (opening_world out n).members ≡ n = length-map (numbers_from 0 n) f ∙ length-numbers 0 n in
+    let wide : length (initial_world env n).members ≡ n = length-map (numbers_from 0 n) f ∙ length-numbers 0 n in
     let none : 0 + length es ≡ length es = omega arith in
-    subst (λ (k : ℕ). IsWithinSteps k (after_events out (opening_world out n) es)) none
-    (within_all out 0 (opening_world out n) es (sound_opening out n) (omega (arith, l)) (omega (arith, wide, few)) taken
-    r size (within_opening out n))
+    subst (λ (k : ℕ). IsWithinSteps k (after_events env (initial_world env n) es)) none
+    (within_all env 0 (initial_world env n) es (sound_initial env n) (omega (arith, l)) (omega (arith, wide, few)) taken
+    r size (within_initial env n))

@@ -7,7 +7,7 @@ use Rattle.std.proofs.lemmas.List.{length-map, get_or-map}
 use Rattle.std.specs.Prelude.{nat_le}
 use Rattle.repo_plan.specs.declared.part.Part.{Part}
 use Rattle.sorted_lists.specs.SortedList.{contains}
-use Rattle.repo_plan.specs.Parts.{Pair, pair_cmp, pair_of, part_of, record_of, parent, parts_after}
+use Rattle.repo_plan.specs.Parts.{Pair, pair_cmp, pair_of, part_of, record_of, parent, last_part}
 use Rattle.repo_plan.specs.Plan.{no_claims}
 use Rattle.sorted_lists.proofs.Sets.{In, in_filter, in_flat_map, in_map, from_map}
 use Rattle.svs_vector.specs.Vectors.{join, join_all}
@@ -15,12 +15,12 @@ use Rattle.svs_vector.proofs.JoinLemmas.{join-at, length-join, join-[]}
 use Rattle.repo_object.specs.Objects.{Post, contents_of, shape_in}
 use Rattle.group_model.specs.Publications.{Logs, Publication, pair_in, parts_in, published, all_parts, published_entry}
 use Rattle.group_model.specs.Publications.{join_of, last_of, count, shape_at, post_at}
-use Rattle.group_model.specs.Member.{Member, member_holds, member_hides, holds_all, catalogue}
+use Rattle.group_model.specs.Member.{Member, member_holds, has_deleted, holds_all, catalogue}
 use Rattle.group_model.specs.World.{Environment, World, no_member, member, logs, logs_of, someone_holds}
-use Rattle.group_model.specs.Steps.{settled_vector, settled_member, comes_to, new_parts, after_gathering, reset_each}
+use Rattle.group_model.specs.Steps.{settled_vector, settled_member, is_gained, new_parts, after_gathering, reset_each}
 use Rattle.group_model.specs.Steps.{after_settle}
 use Rattle.group_model.proofs.OneMember.{listed_whole}
-use Rattle.group_model.specs.Sound.{IsSoundGroup, IsSoundMember, IsPublishedPart, ReportsNoMore}
+use Rattle.group_model.specs.Sound.{IsSoundGroup, IsSoundMember, IsPublishedPart, IsWithinLogs}
 use Rattle.group_model.proofs.Lists.{from_filter, all_in, in_at, at_in, rises_insert_keys}
 use Rattle.group_model.proofs.Parents.{parent_within}
 use Rattle.group_model.proofs.Among.{in_all_parts}
@@ -46,10 +46,10 @@ no_claim (suc n) (suc f) = no_claim n f
 -- ---- a member in a settle
 
 abbrev pub settles : Environment → World → ℕ → Member → Member
-settles out w j m = resets (out.draw j m.machine.draws) w.time (settled_member w m)
+settles env w j m = resets (env.draw j m.machine.draws) w.time (settled_member w m)
 
 abbrev pub settle_each : Environment → World → ℕ → List Member → List Member
-settle_each out w k ms = reset_each out w.time k (map (settled_member w) ms)
+settle_each env w k ms = reset_each env w.time k (map (settled_member w) ms)
 
 -- ---- the joined vector
 
@@ -89,40 +89,40 @@ length_join_all (w ∷ v ∷ ws) n u i each =
 -- ---- the member
 
 -- a part that comes to a member, in parts
-pub record ComesTo (w : World) (m : Member) (t : Part) : Type 0 where
-  pub reported : t.seq ≤ get_or (settled_vector w) t.publisher 0
-  pub not_hidden : member_hides m (pair_of t) ≡ false
+pub record IsGained (w : World) (m : Member) (t : Part) : Type 0 where
+  pub received : t.seq ≤ get_or (settled_vector w) t.publisher 0
+  pub not_hidden : has_deleted m (pair_of t) ≡ false
   pub someones : someone_holds w.members t ≡ true
   pub record_too : someone_holds w.members (record_of t) ≡ true
   pub fresh : member_holds m t ≡ false
 
-pub comes : (w : World) (m : Member) (t : Part) → comes_to w m t ≡ true → ComesTo w m t
+pub comes : (w : World) (m : Member) (t : Part) → is_gained w m t ≡ true → IsGained w m t
 comes w m t h =
     let a : (nat_le t.seq (get_or (settled_vector w) t.publisher 0) ≡ true)
-    × ((not (member_hides m (pair_of t))
+    × ((not (has_deleted m (pair_of t))
     && (someone_holds w.members t && (someone_holds w.members (record_of t) && not (member_holds m t))))
     ≡ true) =
     and_parts (nat_le t.seq (get_or (settled_vector w) t.publisher 0)) _ h in
-    let b : (not (member_hides m (pair_of t)) ≡ true)
+    let b : (not (has_deleted m (pair_of t)) ≡ true)
     × ((someone_holds w.members t && (someone_holds w.members (record_of t) && not (member_holds m t))) ≡ true) =
-    and_parts (not (member_hides m (pair_of t))) _ a.1 in
+    and_parts (not (has_deleted m (pair_of t))) _ a.1 in
     let c : (someone_holds w.members t ≡ true)
     × ((someone_holds w.members (record_of t) && not (member_holds m t)) ≡ true) =
     and_parts (someone_holds w.members t) _ b.1 in
     let d : (someone_holds w.members (record_of t) ≡ true) × (not (member_holds m t) ≡ true) =
     and_parts (someone_holds w.members (record_of t)) _ c.1 in
     record {
-      reported = leb-true t.seq _ a.0;
-      not_hidden = not-true (member_hides m (pair_of t)) b.0;
+      received = leb-true t.seq _ a.0;
+      not_hidden = not-true (has_deleted m (pair_of t)) b.0;
       someones = c.0;
       record_too = d.0;
       fresh = not-true (member_holds m t) d.1;
     }
 
-pub comes_from : (w : World) (m : Member) (t : Part) → ComesTo w m t → comes_to w m t ≡ true
+pub comes_from : (w : World) (m : Member) (t : Part) → IsGained w m t → is_gained w m t ≡ true
 comes_from w m t h =
-    and_from (nat_le t.seq (get_or (settled_vector w) t.publisher 0)) _ (le-leb t.seq _ h.reported)
-    (and_from (not (member_hides m (pair_of t))) _ (not_from_false (member_hides m (pair_of t)) h.not_hidden)
+    and_from (nat_le t.seq (get_or (settled_vector w) t.publisher 0)) _ (le-leb t.seq _ h.received)
+    (and_from (not (has_deleted m (pair_of t))) _ (not_from_false (has_deleted m (pair_of t)) h.not_hidden)
     (and_from (someone_holds w.members t) _ h.someones
     (and_from (someone_holds w.members (record_of t)) (not (member_holds m t)) h.record_too
     (not_from_false (member_holds m t) h.fresh))))
@@ -154,13 +154,13 @@ module _ (w : World) (s : IsSoundGroup w) (j : ℕ) (within : j < length w.membe
   abbrev new : Member
   new = settled_member w old
 
-  pub reported_by : (i : ℕ) (p : ℕ) → i < length w.members → get_or (member w i).known p 0
+  pub knows_settled : (i : ℕ) (p : ℕ) → i < length w.members → get_or (member w i).known p 0
       ≤ get_or (settled_vector w) p 0
-  reported_by i p l =
+  knows_settled i p l =
       join_all_each (map (λ m. m.known) w.members) p (member w i).known
       (in_map (λ (m : Member). m.known) w.members (member w i) (in_at w.members i no_member l))
 
-  pub settled_no_more : ReportsNoMore (logs w) (settled_vector w)
+  pub settled_no_more : IsWithinLogs (logs w) (settled_vector w)
   settled_no_more p = join_all_most (map (λ m. m.known) w.members) p (last_of (logs w) p) (λ u i.
       let r : (m : Member) × (In m w.members) × (u ≡ m.known) = from_map (λ (m : Member). m.known) w.members u i in
       let k : (k : ℕ) × (k < length w.members) × (r.0 ≡ get_or w.members k no_member) =
@@ -180,33 +180,33 @@ module _ (w : World) (s : IsSoundGroup w) (j : ℕ) (within : j < length w.membe
   pub keeps_held : (t : Part) → member_holds old t ≡ true → member_holds new t ≡ true
   keeps_held t h = held_too (new_parts w old) old t h
 
-  pub gets : (t : Part) → In t (all_parts (logs w)) → ComesTo w old t → member_holds new t ≡ true
+  pub gets : (t : Part) → In t (all_parts (logs w)) → IsGained w old t → member_holds new t ≡ true
   gets t i c =
-      held_new (new_parts w old) old t (in_filter (comes_to w old) (all_parts (logs w)) t i (comes_from w old t c))
+      held_new (new_parts w old) old t (in_filter (is_gained w old) (all_parts (logs w)) t i (comes_from w old t c))
 
   came : (t : Part) → member_holds new t ≡ true → member_holds old t ≡ false
-      → In t (all_parts (logs w)) × ComesTo w old t
+      → In t (all_parts (logs w)) × IsGained w old t
   came t h o =
-      let r : In t (all_parts (logs w)) × (comes_to w old t ≡ true) =
-      from_filter (comes_to w old) (all_parts (logs w)) t (held_fresh (new_parts w old) old t h o) in
+      let r : In t (all_parts (logs w)) × (is_gained w old t ≡ true) =
+      from_filter (is_gained w old) (all_parts (logs w)) t (held_fresh (new_parts w old) old t h o) in
       (r.0, comes w old t r.1)
 
   gain : Gain (logs w) old new
   gain = record {
-    knows = λ p. reported_by j p within;
+    knows = λ p. knows_settled j p within;
     hidden = refl;
     held = keeps_held;
     known = λ t h o.
-        let r : In t (all_parts (logs w)) × ComesTo w old t = came t h o in
-        record { from_one = (from_all_parts (logs w) t r.0).there.from_one; to_known = r.1.reported };
+        let r : In t (all_parts (logs w)) × IsGained w old t = came t h o in
+        record { from_one = (from_all_parts (logs w) t r.0).there.from_one; to_known = r.1.received };
     counted = λ t h o. (from_all_parts (logs w) t (came t h o).0).counted;
     with_record = λ t h o.
-        let r : In t (all_parts (logs w)) × ComesTo w old t = came t h o in
+        let r : In t (all_parts (logs w)) × IsGained w old t = came t h o in
         elim (cases_Bool (member_holds old (record_of t))) [
           | inl was ↦ keeps_held (record_of t) was
           | inr free ↦
               gets (record_of t) (record_among (logs w) t r.0) (record {
-                reported = r.1.reported;
+                received = r.1.received;
                 not_hidden = r.1.not_hidden;
                 someones = r.1.record_too;
                 record_too = r.1.record_too;
@@ -214,7 +214,7 @@ module _ (w : World) (s : IsSoundGroup w) (j : ℕ) (within : j < length w.membe
               })
         ];
     with_parent = λ t h o.
-        let r : In t (all_parts (logs w)) × ComesTo w old t = came t h o in
+        let r : In t (all_parts (logs w)) × IsGained w old t = came t h o in
         let listed : Part = parent (shape_at (logs w) (pair_of t)) t in
         let there : IsPublishedPart (logs w) t = from_all_parts (logs w) t r.0 in
         elim (cases_Bool (member_holds old listed)) [
@@ -224,7 +224,7 @@ module _ (w : World) (s : IsSoundGroup w) (j : ℕ) (within : j < length w.membe
                 there = there.there;
                 counted = parent_within (length (contents_of (post_at (logs w) (pair_of t)))) t.part there.counted;
               })) (record {
-                reported = r.1.reported;
+                received = r.1.received;
                 not_hidden = r.1.not_hidden;
                 someones = someone_lists w s t r.1.someones;
                 record_too = r.1.record_too;
@@ -249,7 +249,7 @@ module _ (w : World) (s : IsSoundGroup w) (j : ℕ) (within : j < length w.membe
         known = settled_no_more;
         own =
             let a : get_or old.known j 0 ≡ last_of (logs w) j = m.own in
-            let b : get_or old.known j 0 ≤ get_or (settled_vector w) j 0 = reported_by j j within in
+            let b : get_or old.known j 0 ≤ get_or (settled_vector w) j 0 = knows_settled j j within in
             let c : get_or (settled_vector w) j 0 ≤ last_of (logs w) j = settled_no_more j in omega (arith, a, b, c);
         heard = m.heard;
         held = held_after (logs w) j old new gain m;
@@ -259,9 +259,9 @@ module _ (w : World) (s : IsSoundGroup w) (j : ℕ) (within : j < length w.membe
         apart = λ f g t a b. absurd (let n : get_or no_claims f None ≡ None = no_claim 16 f in cc);
       }
 
-  pub sound_settles : (out : Environment) → IsSoundMember (logs w) j (settles out w j old)
-  sound_settles out =
-      with_machine (logs w) j new (settles out w j old).machine old.processes old.next_process sound_gathered tt
+  pub sound_settles : (env : Environment) → IsSoundMember (logs w) j (settles env w j old)
+  sound_settles env =
+      with_machine (logs w) j new (settles env w j old).machine old.processes old.next_process sound_gathered tt
 
   -- where nothing is hidden, every part of every publication is held
   pub complete : ((i : ℕ) → i < length w.members → (member w i).hidden ≡ []) → (q : Publication)
@@ -280,19 +280,19 @@ module _ (w : World) (s : IsSoundGroup w) (j : ℕ) (within : j < length w.membe
       ] in
       all_in (member_holds new) (parts_in q) (λ t it.
       let p : IsPartOf t q = from_parts_in q t it in
-      let theirs_too : (x : ℕ) → x ≤ parts_after (shape_in q.post)
+      let theirs_too : (x : ℕ) → x ≤ last_part (shape_in q.post)
       → someone_holds w.members (part_of (pair_of t) x) ≡ true =
       λ x le.
       someone w.members (member w q.publisher) (part_of (pair_of t) x) (in_at w.members q.publisher no_member publisher)
       (subst (λ (pair : Pair). member_holds (member w q.publisher) (part_of pair x) ≡ true) (sym p.pair)
-      (held x (subst (λ (o : Post). x ≤ parts_after (shape_in o)) there.post le))) in
+      (held x (subst (λ (o : Post). x ≤ last_part (shape_in o)) there.post le))) in
       elim (cases_Bool (member_holds old t)) [
         | inl was ↦ keeps_held t was
         | inr free ↦ gets t (in_flat_map parts_in (published (logs w)) q t i it) (record {
-          reported =
+          received =
               let own : get_or (member w q.publisher).known q.publisher 0 ≡ last_of (logs w) q.publisher = theirs.own in
               let up : get_or (member w q.publisher).known q.publisher 0 ≤ get_or (settled_vector w) q.publisher 0 =
-              reported_by q.publisher q.publisher publisher in
+              knows_settled q.publisher q.publisher publisher in
               subst (λ (pair : Pair). pair.1 ≤ get_or (settled_vector w) pair.0 0) (sym p.pair)
               (omega (arith, own, up, there.there.to_last));
           not_hidden = ap (λ (xs : List Pair). contains pair_cmp xs (pair_of t)) (clear j within);
@@ -304,34 +304,34 @@ module _ (w : World) (s : IsSoundGroup w) (j : ℕ) (within : j < length w.membe
 
 -- ---- the world
 
-pub settled-at : (out : Environment) (w : World) (k i : ℕ) (ms : List Member) → i < length ms
-    → get_or (settle_each out w k ms) i no_member ≡ settles out w (k + i) (get_or ms i no_member)
-settled-at out w k i [] l = absurd (omega arith)
-settled-at out w k zero (m ∷ ms) l = ap (λ (j : ℕ). settles out w j m) (omega arith)
-settled-at out w k (suc i) (m ∷ ms) l =
-    settled-at out w (k + 1) i ms (omega arith) ∙ ap (λ (j : ℕ). settles out w j (get_or ms i no_member)) (omega arith)
+pub settled-at : (env : Environment) (w : World) (k i : ℕ) (ms : List Member) → i < length ms
+    → get_or (settle_each env w k ms) i no_member ≡ settles env w (k + i) (get_or ms i no_member)
+settled-at env w k i [] l = absurd (omega arith)
+settled-at env w k zero (m ∷ ms) l = ap (λ (j : ℕ). settles env w j m) (omega arith)
+settled-at env w k (suc i) (m ∷ ms) l =
+    settled-at env w (k + 1) i ms (omega arith) ∙ ap (λ (j : ℕ). settles env w j (get_or ms i no_member)) (omega arith)
 
-pub logs_settled : (out : Environment) (w : World) (k : ℕ) (ms : List Member)
-    → logs_of (settle_each out w k ms) ≡ logs_of ms
-logs_settled out w k [] = refl
-logs_settled out w k (m ∷ ms) = ap (λ (ls : Logs). m.log ∷ ls) (logs_settled out w (k + 1) ms)
+pub logs_settled : (env : Environment) (w : World) (k : ℕ) (ms : List Member)
+    → logs_of (settle_each env w k ms) ≡ logs_of ms
+logs_settled env w k [] = refl
+logs_settled env w k (m ∷ ms) = ap (λ (ls : Logs). m.log ∷ ls) (logs_settled env w (k + 1) ms)
 
-pub length_settled : (out : Environment) (w : World) (k : ℕ) (ms : List Member)
-    → length (settle_each out w k ms) ≡ length ms
-length_settled out w k [] = refl
-length_settled out w k (m ∷ ms) = ap suc (length_settled out w (k + 1) ms)
+pub length_settled : (env : Environment) (w : World) (k : ℕ) (ms : List Member)
+    → length (settle_each env w k ms) ≡ length ms
+length_settled env w k [] = refl
+length_settled env w k (m ∷ ms) = ap suc (length_settled env w (k + 1) ms)
 
-pub member_settled : (out : Environment) (w : World) (j : ℕ) → j < length w.members
-    → member (after_settle out w) j ≡ settles out w j (member w j)
-member_settled out w j l = settled-at out w 0 j w.members l ∙ ap (λ (k : ℕ). settles out w k (member w j)) (omega arith)
+pub member_settled : (env : Environment) (w : World) (j : ℕ) → j < length w.members
+    → member (after_settle env w) j ≡ settles env w j (member w j)
+member_settled env w j l = settled-at env w 0 j w.members l ∙ ap (λ (k : ℕ). settles env w k (member w j)) (omega arith)
 
 pub logs_gathered : (w : World) (ms : List Member) → logs_of (map (settled_member w) ms) ≡ logs_of ms
 logs_gathered w [] = refl
 logs_gathered w (m ∷ ms) = ap (λ (ls : Logs). m.log ∷ ls) (logs_gathered w ms)
 
-pub member_gathered : (out : Environment) (w : World) (j : ℕ) → j < length w.members
-    → member (after_gathering out w) j ≡ settled_member w (member w j)
-member_gathered out w j l = get_or-map (settled_member w) w.members j no_member no_member l
+pub member_gathered : (env : Environment) (w : World) (j : ℕ) → j < length w.members
+    → member (after_gathering env w) j ≡ settled_member w (member w j)
+member_gathered env w j l = get_or-map (settled_member w) w.members j no_member no_member l
 
 -- where nothing is hidden each catalogue is then the join of all publications, whatever the machine
 catalogue_joined : (w : World) (j : ℕ) → IsSoundGroup w → j < length w.members
@@ -342,23 +342,23 @@ catalogue_joined w j s within clear =
     (listed_whole (settled_member w (member w j)) (published (logs w)) (complete w s j within clear))
 
 pub settle_joins : InSoundGroups JoinsInSettle
-settle_joins out w s clear j l =
-    let same : length (after_settle out w).members ≡ length w.members = length_settled out w 0 w.members in
+settle_joins env w s clear j l =
+    let same : length (after_settle env w).members ≡ length w.members = length_settled env w 0 w.members in
     let within : j < length w.members = subst (λ (k : ℕ). j < k) same l in
-    subst (λ (ls : Logs). catalogue ls (member (after_settle out w) j) ≡ join_of ls)
-    (sym (logs_settled out w 0 w.members))
-    (ap (λ (m : Member). catalogue (logs w) m) (member_settled out w j within)
+    subst (λ (ls : Logs). catalogue ls (member (after_settle env w) j) ≡ join_of ls)
+    (sym (logs_settled env w 0 w.members))
+    (ap (λ (m : Member). catalogue (logs w) m) (member_settled env w j within)
     ∙ catalogue_joined w j s within
     (λ i li.
-    ap (λ (m : Member). m.hidden) (sym (member_settled out w i li)) ∙ clear i (subst (λ (k : ℕ). i < k) (sym same) li)))
+    ap (λ (m : Member). m.hidden) (sym (member_settled env w i li)) ∙ clear i (subst (λ (k : ℕ). i < k) (sym same) li)))
 
 pub gathering_joins : InSoundGroups JoinsInGathering
-gathering_joins out w s clear j l =
+gathering_joins env w s clear j l =
     let same : length (map (settled_member w) w.members) ≡ length w.members = length-map w.members (settled_member w) in
     let within : j < length w.members = subst (λ (k : ℕ). j < k) same l in
-    subst (λ (ls : Logs). catalogue ls (member (after_gathering out w) j) ≡ join_of ls)
+    subst (λ (ls : Logs). catalogue ls (member (after_gathering env w) j) ≡ join_of ls)
     (sym (logs_gathered w w.members))
-    (ap (λ (m : Member). catalogue (logs w) m) (member_gathered out w j within)
+    (ap (λ (m : Member). catalogue (logs w) m) (member_gathered env w j within)
     ∙ catalogue_joined w j s within
-    (λ i li. ap (λ (m : Member). m.hidden) (sym (member_gathered out w i li))
+    (λ i li. ap (λ (m : Member). m.hidden) (sym (member_gathered env w i li))
     ∙ clear i (subst (λ (k : ℕ). i < k) (sym same) li)))

@@ -14,7 +14,7 @@ use Rattle.repo_plan.proofs.Known.{contains-wanted, contains-unclaimed, unclaime
 use Rattle.group_model.specs.Publications.{Logs, shape_at}
 use Rattle.group_model.specs.Member.{Member, plan_of}
 use Rattle.group_model.specs.World.{member, logs}
-use Rattle.group_model.specs.Steps.{open_at}
+use Rattle.group_model.specs.Steps.{unclaimed_at}
 use Rattle.group_model.specs.Wanted.{HoldsRecords, AllHoldRecords, IsWantedPart, WantsThose, TestsThose, ClaimsFirst}
 use Rattle.group_model.specs.Wanted.{ClaimsNoneWhere}
 use Rattle.group_model.specs.Reached.{InSoundGroups}
@@ -59,7 +59,7 @@ from_words ls m t records w = wanted_from ls m t (record {
 })
 
 pub all_hold_records : InSoundGroups AllHoldRecords
-all_hold_records out w s j l t h = ((s.members j l).held t h).with_record
+all_hold_records env w s j l t h = ((s.members j l).held t h).with_record
 
 pub tests_those : TestsThose
 tests_those ls m t records = (in_words ls m t, from_words ls m t records)
@@ -106,7 +106,7 @@ pub claims_first : ClaimsFirst
 claims_first w j t records e =
     let ls : Logs = logs w in
     let m : Member = member w j in
-    let f : IsFirstOf (open_at w j) t = first_of (open_at w j) t (unclaimed_rises (plan_of ls m)) e in
+    let f : IsFirstOf (unclaimed_at w j) t = first_of (unclaimed_at w j) t (unclaimed_rises (plan_of ls m)) e in
     let o : IsWantedPart ls m t × (is_claimed (plan_of ls m) t ≡ false) = from_open ls m t f.among in
     record { wanted = o.0; unclaimed = o.1; first = λ u wu free d. f.before u (is_open ls m u records wu free) d }
 
@@ -123,8 +123,8 @@ claims_none_where w j records =
     let ls : Logs = logs w in
     let m : Member = member w j in (
       λ e t want. true_from_ne_false (is_claimed (plan_of ls m) t)
-          (λ free. none_first (open_at w j) e t (is_open ls m t records want free)),
-      λ each. first_none (open_at w j) (λ t i.
+          (λ free. none_first (unclaimed_at w j) e t (is_open ls m t records want free)),
+      λ each. first_none (unclaimed_at w j) (λ t i.
           let o : IsWantedPart ls m t × (is_claimed (plan_of ls m) t ≡ false) = from_open ls m t i in
           true≢false (sym (each t o.0) ∙ o.1)),
     )

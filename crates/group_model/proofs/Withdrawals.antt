@@ -13,7 +13,7 @@ use Rattle.svs_sync.specs.Suppression.{periodic}
 use Rattle.group_model.specs.Publications.{Logs, no_post, post_at, last_of, has_unwithdrawn}
 use Rattle.group_model.specs.Member.{Member}
 use Rattle.group_model.specs.Events.{Event}
-use Rattle.group_model.specs.World.{Environment, World, no_member, logs, logs_of, opening_world}
+use Rattle.group_model.specs.World.{Environment, World, no_member, logs, logs_of, initial_world}
 use Rattle.group_model.specs.Steps.{after_event, after_events}
 use Rattle.group_model.specs.Refusals.{EventsAreTaken}
 use Rattle.group_model.specs.Sound.{IsSoundGroup, IsPublished}
@@ -23,7 +23,7 @@ use Rattle.group_model.proofs.Lists.{any_in, in_at}
 use Rattle.group_model.proofs.Worlds.{last_other, last_own, post_kept, post_new, sound_after}
 use Rattle.group_model.proofs.Lasting.{goes_on}
 use Rattle.group_model.proofs.GoingOn.{CanPost}
-use Rattle.group_model.proofs.Runs.{nothing_published, sound_opening}
+use Rattle.group_model.proofs.Runs.{nothing_published, sound_initial}
 
 -- ---- what may be withdrawn
 
@@ -170,7 +170,7 @@ module _ (ms : List Member) (j : ℕ) (m : Member) (o : Post) (more : m.log ≡ 
 -- ---- events
 
 pub stays_rightly : InSoundGroups StaysRightly
-stays_rightly out w s e taken right = elim (goes_on out w e taken s).posted [
+stays_rightly env w s e taken right = elim (goes_on env w e taken s).posted [
   | inl same ↦ subst AllWithdrawRightly (sym same) right
   | inr p ↦ subst AllWithdrawRightly (sym p.is)
       (right_after p.before p.publisher p.changed p.post p.more p.inside p.allowed
@@ -178,21 +178,21 @@ stays_rightly out w s e taken right = elim (goes_on out w e taken s).posted [
 ]
 
 pub begins_rightly : BeginsRightly
-begins_rightly out n pair seq h is =
+begins_rightly env n pair seq h is =
     let f : ℕ → Member = λ j. record no_member {
       known = replicate n 0;
-      machine = record { members = n; heard = None; deadline = periodic (out.draw j 0); draws = 1 };
+      machine = record { members = n; heard = None; deadline = periodic (env.draw j 0); draws = 1 };
     } in
-    let none : last_of (logs (opening_world out n)) pair.0 ≡ 0 =
+    let none : last_of (logs (initial_world env n)) pair.0 ≡ 0 =
     nothing_published f (numbers_from 0 n) pair.0 (λ x. refl) in
     absurd (omega (arith, none, h.from_one, h.to_last))
 
-all_rightly : (out : Environment) (es : List Event) (w : World) → EventsAreTaken out w es → IsSoundGroup w
-    → AllWithdrawRightly (logs w) → AllWithdrawRightly (logs (after_events out w es))
-all_rightly out [] w h s right = right
-all_rightly out (e ∷ es) w h s right =
-    all_rightly out es (after_event out w e) h.1 (sound_after out w e h.0 s) (stays_rightly out w s e h.0 right)
+all_rightly : (env : Environment) (es : List Event) (w : World) → EventsAreTaken env w es → IsSoundGroup w
+    → AllWithdrawRightly (logs w) → AllWithdrawRightly (logs (after_events env w es))
+all_rightly env [] w h s right = right
+all_rightly env (e ∷ es) w h s right =
+    all_rightly env es (after_event env w e) h.1 (sound_after env w e h.0 s) (stays_rightly env w s e h.0 right)
 
-pub reached_rightly : InReachedGroups (λ out w. AllWithdrawRightly (logs w))
-reached_rightly out n es h =
-    all_rightly out es (opening_world out n) h (sound_opening out n) (begins_rightly out n)
+pub reached_rightly : InReachedGroups (λ env w. AllWithdrawRightly (logs w))
+reached_rightly env n es h =
+    all_rightly env es (initial_world env n) h (sound_initial env n) (begins_rightly env n)

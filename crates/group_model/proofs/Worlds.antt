@@ -16,7 +16,7 @@ use Rattle.sorted_lists.proofs.Sets.{In, contains_in}
 use Rattle.repo_plan.proofs.Known.{contains-unclaimed}
 use Rattle.svs_sync.specs.declared.fired.Fired.{Fired}
 use Rattle.svs_sync.specs.declared.fired.Fired.TheVariants.{Early, Quiet, Send}
-use Rattle.svs_sync.specs.KeptVector.{steady_kept}
+use Rattle.svs_sync.specs.SyncStates.{steady_joined}
 use Rattle.repo_object.specs.Objects.{Post, shape_in}
 use Rattle.repo_object.specs.Objects.Post.{Offers, Withdraws}
 use Rattle.group_model.specs.Publications.{Logs, last_of, post_at, no_post}
@@ -24,19 +24,21 @@ use Rattle.repo_process.specs.Processes.{Process, BlockState, closed, object_of}
 use Rattle.repo_process.specs.Processes.BlockState.{Unknown, Already, Waiting, Whole}
 use Rattle.repo_command.specs.declared.command.Command.{Command}
 use Rattle.repo_command.specs.declared.command.Command.TheVariants.{Insert, Check, Delete}
-use Rattle.group_model.specs.Member.{Member, plan_of, catalogued_under, member_hides_all, with_each_tried}
+use Rattle.group_model.specs.Member.{Member, plan_of, catalogued_under, deletes_all, with_each_tried}
 use Rattle.group_model.specs.Changes.{publishes, learns, resets, restarts, takes, member_with_claim}
 use Rattle.group_model.specs.Changes.{member_with_process, member_starts}
-use Rattle.group_model.specs.Events.{SyncInterest, Came, Event}
-use Rattle.group_model.specs.Events.Came.{Nothing, Its, Another}
+use Rattle.group_model.specs.Events.{SyncInterest, Response, Event}
+use Rattle.group_model.specs.Events.Response.{Nothing, Its, Another}
 use Rattle.group_model.specs.World.{Tally, Issued, World, Environment, no_member, no_sync, member, with_member, logs}
 use Rattle.group_model.specs.World.{logs_of, sent_at}
-use Rattle.group_model.specs.Steps.{drawn, claim_at, open_at, to_claim, with_sync, timer_at, reports_too_much}
-use Rattle.group_model.specs.Steps.{came_from}
-use Rattle.group_model.specs.Steps.{came_as, planned_parts, fetched_parts, fetches, attempts_for, attempt, can_start}
+use Rattle.group_model.specs.Steps.{drawn, claim_at, unclaimed_at, to_claim, with_sync, timer_at, exceeds_log}
+use Rattle.group_model.specs.Steps.{response_from}
+use Rattle.group_model.specs.Steps.{response_read, planned_parts, fetched_parts, fetches, attempts_for, attempt}
+use Rattle.group_model.specs.Steps.{can_start}
 use Rattle.group_model.specs.Steps.{block_at, with_process_at, settled_member, syncs_of, after_event, after_events}
 use Rattle.group_model.specs.Steps.{after_publish, after_deliver, after_hear, after_fire, after_reset, after_restart}
-use Rattle.group_model.specs.Steps.{after_claiming, after_part, after_came, after_settle, after_fetch, after_command}
+use Rattle.group_model.specs.Steps.{after_claiming, after_part, after_response, after_settle, after_fetch}
+use Rattle.group_model.specs.Steps.{after_command}
 use Rattle.group_model.specs.Steps.{after_order, after_block, tried_once}
 use Rattle.group_model.specs.Refusals.{Refusal, EventIsTaken, EventsAreTaken, has_sent, unless, if_unsent}
 use Rattle.group_model.specs.Sound.{IsSoundGroup, IsSoundMember, IsConsistentVector}
@@ -45,7 +47,7 @@ use Rattle.group_model.specs.Settles.{GatheringStaysSound}
 use Rattle.group_model.proofs.Lists.{from_filter, in_first, in_take}
 use Rattle.group_model.proofs.Members.{grown, consistent_grown, with_machine, sound_learns, sound_claims, sound_loses}
 use Rattle.group_model.proofs.Gains.{Publishes, sound_takes, sound_gains, sound_publishes, rises_each_tried, each_tried}
-use Rattle.group_model.proofs.Deletions.{sound_deletes, same_log_hides}
+use Rattle.group_model.proofs.Deletions.{sound_deletes, same_log_deletes}
 use Rattle.group_model.proofs.Settles.{settle_each, sound_gathered, sound_settles, logs_settled, logs_gathered}
 use Rattle.group_model.proofs.Settles.{length_settled, member_settled, member_gathered, no_claim}
 
@@ -180,16 +182,16 @@ publishes_one ms j m o e l =
       shape = ap shape_in (post_new ms j m o e l);
     }
 
-pub sound_publish : (out : Environment) (w : World) (j : ℕ) (o : Post) → j < length w.members → IsSoundGroup w
-    → IsSoundGroup (after_publish out w j o)
-sound_publish out w j o l s =
-    let m : Member = publishes (drawn out w j) w.time j o (member w j) in
+pub sound_publish : (env : Environment) (w : World) (j : ℕ) (o : Post) → j < length w.members → IsSoundGroup w
+    → IsSoundGroup (after_publish env w j o)
+sound_publish env w j o l s =
+    let m : Member = publishes (drawn env w j) w.time j o (member w j) in
     let p : Publishes (logs w) (logs_of (set w.members j m)) j o = publishes_one w.members j m o refl l in
     let log : length (member w j).log ≡ last_of (logs w) j =
     sym (ap length (get_or-map (λ (x : Member). x.log) w.members j no_member [] l)) in
     let wide : j < length (logs w) = subst (λ (n : ℕ). j < n) (sym (length-map w.members (λ (x : Member). x.log))) l in
     let new : IsSoundMember (logs_of (set w.members j m)) j m =
-    sound_publishes (drawn out w j) w.time (logs w) (logs_of (set w.members j m)) j o (member w j) wide log p
+    sound_publishes (drawn env w j) w.time (logs w) (logs_of (set w.members j m)) j o (member w j) wide log p
     (s.members j l) in
     let others : Members (logs_of (set w.members j m)) (set w.members j m) = λ i li.
     elim (cases_eq i j) [
@@ -215,7 +217,7 @@ sound_publish out w j o l s =
 -- ---- claims and what comes for them
 
 -- an unclaimed part is wanted, and nobody claims it
-pub open_wanted : (w : World) (j : ℕ) (t : Part) → In t (open_at w j)
+pub open_wanted : (w : World) (j : ℕ) (t : Part) → In t (unclaimed_at w j)
     → (is_wanted (plan_of (logs w) (member w j)) t ≡ true) × (is_claimed (plan_of (logs w) (member w j)) t ≡ false)
 open_wanted w j t i =
     let p = plan_of (logs w) (member w j) in
@@ -227,53 +229,53 @@ sound_claim : (w : World) (j f : ℕ) (claim : Option Part) → to_claim w j ≡
     → IsSoundGroup (after_claiming w j f claim)
 sound_claim w j f None e l s = s
 sound_claim w j f (Some t) e l s =
-    let r = open_wanted w j t (in_first (open_at w j) t e) in
+    let r = open_wanted w j t (in_first (unclaimed_at w j) t e) in
     sound_set w j (member_with_claim f (Some t) (member w j)) w.time w.issued w.tally refl
     (sound_claims (logs w) j f t (member w j) r.0 r.1 (s.members j l)) s
 
-sound_part : (out : Environment) (w : World) (j f : ℕ) (t : Part) → claim_at w j f ≡ Some t → j < length w.members
-    → IsSoundGroup w → IsSoundGroup (after_part out w j f t)
-sound_part out w j f t e l s =
+sound_part : (env : Environment) (w : World) (j f : ℕ) (t : Part) → claim_at w j f ≡ Some t → j < length w.members
+    → IsSoundGroup w → IsSoundGroup (after_part env w j f t)
+sound_part env w j f t e l s =
     sound_set w j (takes f t (member w j)) w.time w.issued _ refl
     (sound_takes (logs w) j f t (member w j) e (s.members j l)) s
 
-sound_came : (out : Environment) (w : World) (j f : ℕ) (claim : Option Part) (came : Came) → claim_at w j f ≡ claim
-    → j < length w.members → IsSoundGroup w → IsSoundGroup (after_came out w j f claim came)
-sound_came out w j f None came e l s = s
-sound_came out w j f (Some t) Nothing e l s = s
-sound_came out w j f (Some t) Its e l s = sound_part out w j f t e l s
-sound_came out w j f (Some t) Another e l s = sound_part out w j f t e l s
+sound_came : (env : Environment) (w : World) (j f : ℕ) (claim : Option Part) (came : Response) → claim_at w j f ≡ claim
+    → j < length w.members → IsSoundGroup w → IsSoundGroup (after_response env w j f claim came)
+sound_came env w j f None came e l s = s
+sound_came env w j f (Some t) Nothing e l s = s
+sound_came env w j f (Some t) Its e l s = sound_part env w j f t e l s
+sound_came env w j f (Some t) Another e l s = sound_part env w j f t e l s
 
 -- ---- sync
 
-sound_reset : (out : Environment) (w : World) (j : ℕ) → j < length w.members → IsSoundGroup w
-    → IsSoundGroup (after_reset out w j)
-sound_reset out w j l s =
+sound_reset : (env : Environment) (w : World) (j : ℕ) → j < length w.members → IsSoundGroup w
+    → IsSoundGroup (after_reset env w j)
+sound_reset env w j l s =
     let m : Member = member w j in
-    sound_set w j (resets (drawn out w j) w.time m) w.time w.issued w.tally refl
-    (with_machine (logs w) j m (steady_kept w.time (drawn out w j) m.machine) m.processes m.next_process
+    sound_set w j (resets (drawn env w j) w.time m) w.time w.issued w.tally refl
+    (with_machine (logs w) j m (steady_joined w.time (drawn env w j) m.machine) m.processes m.next_process
     (s.members j l) tt) s
 
-sound_fire : (out : Environment) (w : World) (j : ℕ) (f : Fired) → j < length w.members → IsSoundGroup w
-    → IsSoundGroup (after_fire out w j f)
-sound_fire out w j Early l s = s
-sound_fire out w j Quiet l s = sound_reset out w j l s
-sound_fire out w j Send l s =
-    sound_sync (after_reset out w j) j (subst (λ (n : ℕ). j < n) (sym (length-set w.members j _)) l)
-    (sound_reset out w j l s)
+sound_fire : (env : Environment) (w : World) (j : ℕ) (f : Fired) → j < length w.members → IsSoundGroup w
+    → IsSoundGroup (after_fire env w j f)
+sound_fire env w j Early l s = s
+sound_fire env w j Quiet l s = sound_reset env w j l s
+sound_fire env w j Send l s =
+    sound_sync (after_reset env w j) j (subst (λ (n : ℕ). j < n) (sym (length-set w.members j _)) l)
+    (sound_reset env w j l s)
 
-sound_deliver : (out : Environment) (w : World) (j : ℕ) (reported : List ℕ) → IsConsistentVector (logs w) reported → j
+sound_deliver : (env : Environment) (w : World) (j : ℕ) (received : List ℕ) → IsConsistentVector (logs w) received → j
     < length w.members
-    → IsSoundGroup w → IsSoundGroup (after_deliver out w j reported)
-sound_deliver out w j reported t l s =
-    sound_set w j (learns (drawn out w j) w.time reported (member w j)) w.time w.issued _ refl
-    (sound_learns (drawn out w j) w.time (logs w) j reported (member w j) t (s.members j l)) s
+    → IsSoundGroup w → IsSoundGroup (after_deliver env w j received)
+sound_deliver env w j received t l s =
+    sound_set w j (learns (drawn env w j) w.time received (member w j)) w.time w.issued _ refl
+    (sound_learns (drawn env w j) w.time (logs w) j received (member w j) t (s.members j l)) s
 
-sound_restart : (out : Environment) (w : World) (j : ℕ) → j < length w.members → IsSoundGroup w
-    → IsSoundGroup (after_restart out w j)
-sound_restart out w j l s =
+sound_restart : (env : Environment) (w : World) (j : ℕ) → j < length w.members → IsSoundGroup w
+    → IsSoundGroup (after_restart env w j)
+sound_restart env w j l s =
     let r : IsSoundMember (logs w) j (member w j) = s.members j l in
-    sound_set w j (restarts (drawn out w j) w.time (member w j)) w.time w.issued w.tally refl (record {
+    sound_set w j (restarts (drawn env w j) w.time (member w j)) w.time w.issued w.tally refl (record {
       width = r.width;
       fetchers = refl;
       in_order = record {
@@ -309,15 +311,15 @@ held_unless : (b : Bool) (r : Refusal) → unless b r ≡ None → b ≡ true
 held_unless true r e = refl
 held_unless false r e = absurd cc
 
-sound_hear : (out : Environment) (w : World) (j : ℕ) (read : Option SyncInterest) → if_unsent w j read ≡ None
-    → j < length w.members → IsSoundGroup w → IsSoundGroup (after_hear out w j read)
-sound_hear out w j None e l s = s
-sound_hear out w j (Some sync) e l s = go (reports_too_much w j sync) e where
+sound_hear : (env : Environment) (w : World) (j : ℕ) (read : Option SyncInterest) → if_unsent w j read ≡ None
+    → j < length w.members → IsSoundGroup w → IsSoundGroup (after_hear env w j read)
+sound_hear env w j None e l s = s
+sound_hear env w j (Some sync) e l s = go (exceeds_log w j sync) e where
   go : (b : Bool) → cond b None (unless (has_sent w sync) Refusal.Foreign) ≡ None
-      → IsSoundGroup (cond b w (after_deliver out w j sync.vector))
+      → IsSoundGroup (cond b w (after_deliver env w j sync.vector))
   go true e = s
   go false e =
-      sound_deliver out w j sync.vector
+      sound_deliver env w j sync.vector
       (sent_consistent (logs w) w.sent sync s.sent (held_unless (has_sent w sync) Refusal.Foreign e)) l s
 
 -- ---- a settle and a fetch
@@ -342,44 +344,44 @@ sent_settled w s =
     (syncs_consistent (logs w) 0 w.members (λ i l. consistent_vector (logs w) i (member w i) (s.members i l)))
 
 pub gathering_sound : InSoundGroups GatheringStaysSound
-gathering_sound out w s = record {
+gathering_sound env w s = record {
   members =
       subst (λ (ls : Logs). Members ls (map (settled_member w) w.members)) (sym (logs_gathered w w.members)) (λ j l.
       let within : j < length w.members = subst (λ (n : ℕ). j < n) (length-map w.members (settled_member w)) l in
-      subst (λ (m : Member). IsSoundMember (logs w) j m) (sym (member_gathered out w j within))
+      subst (λ (m : Member). IsSoundMember (logs w) j m) (sym (member_gathered env w j within))
       (sound_gathered w s j within));
   sent =
       subst (λ (ls : Logs). SentConsistently ls (w.sent ++ syncs_of 0 w.members)) (sym (logs_gathered w w.members))
       (sent_settled w s);
 }
 
-sound_settle : (out : Environment) (w : World) → IsSoundGroup w → IsSoundGroup (after_settle out w)
-sound_settle out w s =
-    let same : logs_of (settle_each out w 0 w.members) ≡ logs w = logs_settled out w 0 w.members in
-    let each : Members (logs w) (settle_each out w 0 w.members) = λ j l.
-    let within : j < length w.members = subst (λ (n : ℕ). j < n) (length_settled out w 0 w.members) l in
-    subst (λ (m : Member). IsSoundMember (logs w) j m) (sym (member_settled out w j within))
-    (sound_settles w s j within out) in
+sound_settle : (env : Environment) (w : World) → IsSoundGroup w → IsSoundGroup (after_settle env w)
+sound_settle env w s =
+    let same : logs_of (settle_each env w 0 w.members) ≡ logs w = logs_settled env w 0 w.members in
+    let each : Members (logs w) (settle_each env w 0 w.members) = λ j l.
+    let within : j < length w.members = subst (λ (n : ℕ). j < n) (length_settled env w 0 w.members) l in
+    subst (λ (m : Member). IsSoundMember (logs w) j m) (sym (member_settled env w j within))
+    (sound_settles w s j within env) in
     let sent : SentConsistently (logs w) (w.sent ++ syncs_of 0 w.members) = sent_settled w s in
     record {
-      members = subst (λ (ls : Logs). Members ls (settle_each out w 0 w.members)) (sym same) each;
+      members = subst (λ (ls : Logs). Members ls (settle_each env w 0 w.members)) (sym same) each;
       sent = subst (λ (ls : Logs). SentConsistently ls (w.sent ++ syncs_of 0 w.members)) (sym same) sent;
     }
 
-sound_fetch : (out : Environment) (w : World) (j tries loss : ℕ) → j < length w.members → IsSoundGroup w
-    → IsSoundGroup (after_fetch out w j tries loss)
-sound_fetch out w j tries loss l s =
+sound_fetch : (env : Environment) (w : World) (j tries loss : ℕ) → j < length w.members → IsSoundGroup w
+    → IsSoundGroup (after_fetch env w j tries loss)
+sound_fetch env w j tries loss l s =
     let m : Member = member w j in
-    let ts : List Part = fetched_parts out w j tries loss in
-    let more : Part → ℕ = attempts_for out w j tries loss in
+    let ts : List Part = fetched_parts env w j tries loss in
+    let more : Part → ℕ = attempts_for env w j tries loss in
     let r : IsSoundMember (logs w) j m = s.members j l in
     let was : (t : Part) → In t ts
     → (is_wanted (plan_of (logs w) m) t ≡ true) × (is_claimed (plan_of (logs w) m) t ≡ false) =
     λ t i.
-    let a : In t (planned_parts w j) × (is_some (attempt out w j tries loss t) ≡ true) =
-    from_filter (λ u. is_some (attempt out w j tries loss u)) (planned_parts w j) t i in
-    open_wanted w j t (in_take 4096 (open_at w j) t a.0) in
-    sound_set w j (fetches out w j tries loss m) w.time w.issued _ refl
+    let a : In t (planned_parts w j) × (is_some (attempt env w j tries loss t) ≡ true) =
+    from_filter (λ u. is_some (attempt env w j tries loss u)) (planned_parts w j) t i in
+    open_wanted w j t (in_take 4096 (unclaimed_at w j) t a.0) in
+    sound_set w j (fetches env w j tries loss m) w.time w.issued _ refl
     (sound_gains (logs w) j ts (with_each_tried more (planned_parts w j) m.attempts) m (λ t i. (was t i).0)
     (λ t i. (was t i).1)
     (rises_each_tried more (planned_parts w j) m.attempts r.in_order.attempts)
@@ -397,8 +399,8 @@ sound_command w j (Insert name first last) l s = go (can_start (member w j)) whe
   go false = s
 sound_command w j (Check process) l s = s
 sound_command w j (Delete name) l s =
-    sound_set w j (member_hides_all (catalogued_under (logs w) (member w j) name) (member w j)) w.time w.issued
-    w.tally (same_log_hides (catalogued_under (logs w) (member w j) name) (member w j))
+    sound_set w j (deletes_all (catalogued_under (logs w) (member w j) name) (member w j)) w.time w.issued
+    w.tally (same_log_deletes (catalogued_under (logs w) (member w j) name) (member w j))
     (sound_deletes (logs w) j name (member w j) (s.members j l)) s
 
 sound_order : (w : World) (j : ℕ) (read : Result (ℕ × Command) ℕ) → j < length w.members → IsSoundGroup w
@@ -412,14 +414,14 @@ sound_process w j number p l s =
     sound_set w j (member_with_process number p (member w j)) w.time w.issued w.tally refl
     (with_machine (logs w) j (member w j) (member w j).machine _ _ (s.members j l) (s.members j l).heard) s
 
-sound_block : (out : Environment) (w : World) (j process : ℕ) (state : BlockState) → j < length w.members
+sound_block : (env : Environment) (w : World) (j process : ℕ) (state : BlockState) → j < length w.members
     → IsSoundGroup w
-    → IsSoundGroup (after_block out w j process state)
-sound_block out w j process Unknown l s = s
-sound_block out w j process Already l s = s
-sound_block out w j process (Waiting p) l s = sound_process w j process p l s
-sound_block out w j process (Whole p) l s =
-    sound_publish out (with_process_at w j process (closed p)) j (Offers (object_of p))
+    → IsSoundGroup (after_block env w j process state)
+sound_block env w j process Unknown l s = s
+sound_block env w j process Already l s = s
+sound_block env w j process (Waiting p) l s = sound_process w j process p l s
+sound_block env w j process (Whole p) l s =
+    sound_publish env (with_process_at w j process (closed p)) j (Offers (object_of p))
     (subst (λ (n : ℕ). j < n) (sym (length-set w.members j _)) l) (sound_process w j process (closed p) l s)
 
 -- ---- any event
@@ -431,42 +433,42 @@ sent_within w k e =
     and_parts (nat_le 1 k) (nat_le k (length w.sent)) (held_unless _ _ e) in
     (leb-true 1 k r.0, leb-true k (length w.sent) r.1)
 
-pub sound_after : (out : Environment) (w : World) (e : Event) → EventIsTaken out w e → IsSoundGroup w
-    → IsSoundGroup (after_event out w e)
-sound_after out w (Event.Publish j o) h s = sound_publish out w j (Offers o) h.named s
-sound_after out w (Event.Withdraw j seq) h s = sound_publish out w j (Withdraws seq) h.named s
-sound_after out w (Event.Deliver k j) h s =
+pub sound_after : (env : Environment) (w : World) (e : Event) → EventIsTaken env w e → IsSoundGroup w
+    → IsSoundGroup (after_event env w e)
+sound_after env w (Event.Publish j o) h s = sound_publish env w j (Offers o) h.named s
+sound_after env w (Event.Withdraw j seq) h s = sound_publish env w j (Withdraws seq) h.named s
+sound_after env w (Event.Deliver k j) h s =
     let b : (1 ≤ k) × (k ≤ length w.sent) = sent_within w k h.taken in
-    sound_deliver out w j (sent_at w k).vector (s.sent (k - 1) (omega (arith, b))) h.named s
-sound_after out w (Event.Sync k) h s = s
-sound_after out w (Event.Advance ms) h s = sound_same w (w.time + ms) w.issued w.tally s
-sound_after out w (Event.Fire j) h s = sound_fire out w j (timer_at w j) h.named s
-sound_after out w (Event.Restart j) h s = sound_restart out w j h.named s
-sound_after out w (Event.Vector j) h s = s
-sound_after out w (Event.Catalogue j) h s = s
-sound_after out w (Event.Claim j f) h s = sound_claim w j f (to_claim w j) refl h.named.0 s
-sound_after out w (Event.Lose j f) h s =
+    sound_deliver env w j (sent_at w k).vector (s.sent (k - 1) (omega (arith, b))) h.named s
+sound_after env w (Event.Sync k) h s = s
+sound_after env w (Event.Advance ms) h s = sound_same w (w.time + ms) w.issued w.tally s
+sound_after env w (Event.Fire j) h s = sound_fire env w j (timer_at w j) h.named s
+sound_after env w (Event.Restart j) h s = sound_restart env w j h.named s
+sound_after env w (Event.Vector j) h s = s
+sound_after env w (Event.Catalogue j) h s = s
+sound_after env w (Event.Claim j f) h s = sound_claim w j f (to_claim w j) refl h.named.0 s
+sound_after env w (Event.Lose j f) h s =
     sound_set w j (member_with_claim f None (member w j)) w.time w.issued w.tally refl
     (sound_loses (logs w) j f (member w j) (s.members j h.named.0)) s
-sound_after out w (Event.Answer j f q) h s =
-    sound_came out (tried_once w) j f (claim_at w j f) (came_from out w q (claim_at w j f)) refl h.named.0.0
+sound_after env w (Event.Answer j f q) h s =
+    sound_came env (tried_once w) j f (claim_at w j f) (response_from env w q (claim_at w j f)) refl h.named.0.0
     (sound_same w w.time w.issued _ s)
-sound_after out w (Event.Fetch j tries loss) h s = sound_fetch out w j tries loss h.named s
-sound_after out w Event.Settle h s = sound_settle out w s
-sound_after out w (Event.Dump j t) h s = s
-sound_after out w (Event.Hear j read) h s = sound_hear out w j read h.taken h.named s
-sound_after out w (Event.Ask j find) h s = s
-sound_after out w (Event.Feed j f read) h s =
-    sound_came out w j f (claim_at w j f) (came_as w read (claim_at w j f)) refl h.named.0 s
-sound_after out w (Event.Order j read) h s = sound_order w j read h.named s
-sound_after out w (Event.Issue j client command) h s =
+sound_after env w (Event.Fetch j tries loss) h s = sound_fetch env w j tries loss h.named s
+sound_after env w Event.Settle h s = sound_settle env w s
+sound_after env w (Event.Dump j t) h s = s
+sound_after env w (Event.Hear j read) h s = sound_hear env w j read h.taken h.named s
+sound_after env w (Event.Ask j find) h s = s
+sound_after env w (Event.Feed j f read) h s =
+    sound_came env w j f (claim_at w j f) (response_read w read (claim_at w j f)) refl h.named.0 s
+sound_after env w (Event.Order j read) h s = sound_order w j read h.named s
+sound_after env w (Event.Issue j client command) h s =
     sound_command _ j command h.named (sound_same w w.time _ w.tally s)
-sound_after out w (Event.Block j process index content) h s =
-    sound_block out w j process (block_at w j process index content) h.named s
-sound_after out w Event.Summary h s = s
-sound_after out w Event.Traffic h s = s
+sound_after env w (Event.Block j process index content) h s =
+    sound_block env w j process (block_at w j process index content) h.named s
+sound_after env w Event.Summary h s = s
+sound_after env w Event.Traffic h s = s
 
-pub sound_after_all : (out : Environment) (es : List Event) (w : World) → EventsAreTaken out w es → IsSoundGroup w
-    → IsSoundGroup (after_events out w es)
-sound_after_all out [] w h s = s
-sound_after_all out (e ∷ es) w h s = sound_after_all out es (after_event out w e) h.1 (sound_after out w e h.0 s)
+pub sound_after_all : (env : Environment) (es : List Event) (w : World) → EventsAreTaken env w es → IsSoundGroup w
+    → IsSoundGroup (after_events env w es)
+sound_after_all env [] w h s = s
+sound_after_all env (e ∷ es) w h s = sound_after_all env es (after_event env w e) h.1 (sound_after env w e h.0 s)

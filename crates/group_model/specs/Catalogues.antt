@@ -4,7 +4,7 @@ use Rattle.repo_plan.specs.Parts.{Pair, part_of}
 use Rattle.repo_catalog.specs.Entries.{IsCatalogue, lists}
 use Rattle.repo_object.specs.Objects.{offered, withdraws_number}
 use Rattle.group_model.specs.Publications.{Logs, count, post_at, join_of}
-use Rattle.group_model.specs.Member.{Member, member_holds, member_hides, catalogue}
+use Rattle.group_model.specs.Member.{Member, member_holds, has_deleted, catalogue}
 use Rattle.group_model.specs.World.{Environment, World, member, logs, catalogue_at}
 use Rattle.group_model.specs.Sound.{IsPublished}
 
@@ -23,11 +23,11 @@ pub record BelongsInCatalogue (logs : Logs) (m : Member) (pair : Pair) : Type 0 
 -- Those are listed and no others, and none that the member has hidden.
 pub record ListsRightly (w : World) (j : ℕ) (pair : Pair) : Type 0 where
   pub exactly : (lists pair (catalogue_at w j) ≡ true) ↔ BelongsInCatalogue (logs w) (member w j) pair
-  pub not_hidden : member_hides (member w j) pair ≡ true → lists pair (catalogue_at w j) ≡ false
+  pub not_hidden : has_deleted (member w j) pair ≡ true → lists pair (catalogue_at w j) ≡ false
 
 -- Every member lists rightly.
 abbrev pub ListsThose : Environment → World → Type 0
-ListsThose out w = (j : ℕ) (pair : Pair) → j < length w.members → ListsRightly w j pair
+ListsThose env w = (j : ℕ) (pair : Pair) → j < length w.members → ListsRightly w j pair
 
 -- A catalogue lists its entries in order of publisher and number, each once.
 abbrev pub ListsInOrder : Type 0

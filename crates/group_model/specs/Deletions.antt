@@ -3,9 +3,9 @@ use Rattle.std.specs.Prelude.{ℕ, ◌≡◌, ◌<◌, true, length, is_some}
 use Rattle.repo_plan.specs.Parts.{Pair}
 use Rattle.repo_object.specs.Objects.{offered}
 use Rattle.group_model.specs.Publications.{Logs, post_at}
-use Rattle.group_model.specs.Member.{member_hides}
+use Rattle.group_model.specs.Member.{has_deleted}
 use Rattle.group_model.specs.Events.{Event}
-use Rattle.group_model.specs.World.{Environment, World, member, logs, opening_world}
+use Rattle.group_model.specs.World.{Environment, World, member, logs, initial_world}
 use Rattle.group_model.specs.Steps.{after_event}
 use Rattle.group_model.specs.Sound.{IsPublished}
 use Rattle.group_model.specs.Refusals.{EventIsTaken}
@@ -16,15 +16,15 @@ pub record IsOffered (logs : Logs) (pair : Pair) : Type 0 where
   pub object : is_some (offered (post_at logs pair)) ≡ true
 
 -- Each hidden publication is one, and so no withdrawal is hidden.
-abbrev pub OnlyObjectsHidden : World → Type 0
-OnlyObjectsHidden w = (j : ℕ) (pair : Pair) → j < length w.members → member_hides (member w j) pair ≡ true
+abbrev pub OnlyObjectsDeleted : World → Type 0
+OnlyObjectsDeleted w = (j : ℕ) (pair : Pair) → j < length w.members → has_deleted (member w j) pair ≡ true
     → IsOffered (logs w) pair
 
 -- So it is in a group in which nothing has happened, and it stays so after any event that is taken.
-abbrev pub BeginsWithObjectsHidden : Type 0
-BeginsWithObjectsHidden = (out : Environment) (n : ℕ) → OnlyObjectsHidden (opening_world out n)
+abbrev pub BeginsWithObjectsDeleted : Type 0
+BeginsWithObjectsDeleted = (env : Environment) (n : ℕ) → OnlyObjectsDeleted (initial_world env n)
 
 -- An event that is taken hides objects alone.
-abbrev pub StaysWithObjectsHidden : Environment → World → Type 0
-StaysWithObjectsHidden out w = (e : Event) → EventIsTaken out w e → OnlyObjectsHidden w
-    → OnlyObjectsHidden (after_event out w e)
+abbrev pub StaysWithObjectsDeleted : Environment → World → Type 0
+StaysWithObjectsDeleted env w = (e : Event) → EventIsTaken env w e → OnlyObjectsDeleted w
+    → OnlyObjectsDeleted (after_event env w e)

@@ -12,8 +12,8 @@ use Rattle.repo_object.specs.Objects.{NamedContents}
 use Rattle.group_model.specs.Publications.{Logs, no_post, join_of}
 use Rattle.repo_command.specs.Answers.{code_only}
 use Rattle.repo_command.specs.declared.command.Command.TheVariants.{Insert, Check, Delete}
-use Rattle.group_model.specs.Events.{Came, Found, Event}
-use Rattle.group_model.specs.Events.Came.{Nothing, Its, Another}
+use Rattle.group_model.specs.Events.{Response, Found, Event}
+use Rattle.group_model.specs.Events.Response.{Nothing, Its, Another}
 use Rattle.group_model.specs.Events.Found.{NoPacket, Packet}
 use Rattle.group_model.specs.Events.Event.{Publish, Deliver, Sync, Advance, Fire, Restart, Vector, Catalogue, Claim}
 use Rattle.group_model.specs.Events.Event.{Lose, Answer, Fetch, Settle, Dump, Hear, Ask, Feed, Order, Issue, Block}
@@ -23,7 +23,7 @@ use Rattle.group_model.specs.Replies.Reply.{Published, Delivered, Synced, Advanc
 use Rattle.group_model.specs.Replies.Reply.{Numbers, Entries, Claimed, Lost, Answered, Fetched, Settled, Dumped, Heard}
 use Rattle.group_model.specs.Replies.Reply.{HearRefused, OwnNumberAhead, Asked, Fed, Commanded, NoBlock, BlockKept}
 use Rattle.group_model.specs.Replies.Reply.{BlockLate, BlockPublished, Summed, Counted}
-use Rattle.group_model.specs.World.{Environment, World, no_member, opening_world, logs}
+use Rattle.group_model.specs.World.{Environment, World, no_member, initial_world, logs}
 use Rattle.group_model.specs.Steps.{replies, after_event, after_events}
 use Rattle.group_model.specs.Refusals.{Refusal, refusal}
 use Rattle.group_model.specs.Refusals.Refusal.{NoSuchPacket, FetcherBusy, FetcherIdle, Foreign, NumbersSpent}
@@ -31,7 +31,7 @@ use Rattle.group_model.specs.Refusals.Refusal.{NoSuchPacket, FetcherBusy, Fetche
 -- ---- what is given
 
 -- A member gives what it holds.
-abbrev pub gives_held : Logs → List Part → Part → Came
+abbrev pub gives_held : Logs → List Part → Part → Response
 gives_held logs held t = if contains part_cmp held t then Its else Nothing
 
 -- Every draw is 100, the network passes all, and a record has 118 octets and a segment 79.
@@ -49,8 +49,8 @@ third = record plain_outside { passes = λ _ _ attempt _. attempt == 3 }
 
 -- What refuses each event of a list, if something does.
 abbrev pub refusals : Environment → World → List Event → List (Option Refusal)
-refusals out w [] = []
-refusals out w (e ∷ es) = refusal out w e ∷ refusals out (after_event out w e) es
+refusals env w [] = []
+refusals env w (e ∷ es) = refusal env w e ∷ refusals env (after_event env w e) es
 
 -- A line of an example in which every event is taken.
 abbrev pub no_refusal : Event × Reply → Option Refusal
@@ -58,20 +58,20 @@ no_refusal line = None
 
 -- Events that are taken from the opening on, with their replies.
 abbrev pub Plays : Environment → ℕ → List (Event × Reply) → Type 0
-Plays out members lines =
-    let opening = opening_world out members in
+Plays env members lines =
+    let initial = initial_world env members in
     let events = map (λ l. l.0) lines in
-    (replies out opening events ≡ map (λ l. l.1) lines) × (refusals out opening events ≡ map no_refusal lines)
+    (replies env initial events ≡ map (λ l. l.1) lines) × (refusals env initial events ≡ map no_refusal lines)
 
 -- Events that are refused after others that are taken, with what refuses them.
 abbrev pub refused_after : Environment → ℕ → List (Event × Reply) → List (Event × Refusal) → List (Option Refusal)
-refused_after out members lines refused =
-    map (λ l. refusal out (after_events out (opening_world out members) (map (λ l. l.0) lines)) l.0) refused
+refused_after env members lines refused =
+    map (λ l. refusal env (after_events env (initial_world env members) (map (λ l. l.0) lines)) l.0) refused
 
 -- After these events, which are taken with these replies, each of those is refused so.
 abbrev pub Refuses : Environment → ℕ → List (Event × Reply) → List (Event × Refusal) → Type 0
-Refuses out members lines refused =
-    Plays out members lines × (refused_after out members lines refused ≡ map (λ l. Some l.1) refused)
+Refuses env members lines refused =
+    Plays env members lines × (refused_after env members lines refused ≡ map (λ l. Some l.1) refused)
 
 -- ---- words for the lines
 
@@ -116,8 +116,8 @@ finds_record logs held =
     if contains part_cmp held (part_of (0, 1) 0) then Packet (part_of (0, 1) 0) else NoPacket
 
 -- A fetcher of the second member claims a part of the first one's publication, and gets it from the first.
-abbrev pub part_comes : ℕ → List (Event × Reply) → List (Event × Reply)
-part_comes x later = (Claim 1 1, Claimed (part 0 1 x)) ∷ (Answer 1 1 0, Answered true) ∷ later
+abbrev pub part_fetched : ℕ → List (Event × Reply) → List (Event × Reply)
+part_fetched x later = (Claim 1 1, Claimed (part 0 1 x)) ∷ (Answer 1 1 0, Answered true) ∷ later
 
 -- ---- publications, vectors and settles
 
@@ -164,9 +164,9 @@ abbrev pub PartByPart : Type 0
 PartByPart = Plays plain_outside 2 (
     (Publish 0 three_pieces, Published 1 3 1)
     ∷ (Deliver 1 1, Delivered Steady)
-    ∷ part_comes 0 (part_comes 1 (part_comes 2 (
+    ∷ part_fetched 0 (part_fetched 1 (part_fetched 2 (
     (Catalogue 1, Entries [])
-    ∷ part_comes 3 ((Catalogue 1, Entries (entry 0 1 doc 3 3 abc ∷ [])) ∷ [])
+    ∷ part_fetched 3 ((Catalogue 1, Entries (entry 0 1 doc 3 3 abc ∷ [])) ∷ [])
     )))
     )
 
@@ -212,7 +212,7 @@ abbrev pub SettleEndsClaims : Type 0
 SettleEndsClaims = Plays plain_outside 2 (
     (Publish 0 three_pieces, Published 1 3 1)
     ∷ (Deliver 1 1, Delivered Steady)
-    ∷ part_comes 0 (part_comes 1 (
+    ∷ part_fetched 0 (part_fetched 1 (
     (Claim 1 1, Claimed (part 0 1 2))
     ∷ (Settle, Settled 2 2)
     ∷ (Catalogue 1, Entries (entry 0 1 doc 3 3 abc ∷ []))
@@ -352,7 +352,7 @@ OrderIsForeign = Refuses plain_outside 2 ((Issue 0 0 (Check 1), Commanded (code_
 
 -- A member that has published so often.
 abbrev pub after_so_many : ℕ → World
-after_so_many n = record (opening_world plain_outside 1) {
+after_so_many n = record (initial_world plain_outside 1) {
   members = record no_member { log = replicate n no_post } ∷ [];
 }
 
@@ -381,7 +381,7 @@ abbrev pub RestartKeepsNumbers : Type 0
 RestartKeepsNumbers = Plays plain_outside 2 (
     (Publish 0 three_pieces, Published 1 3 1)
     ∷ (Deliver 1 1, Delivered Steady)
-    ∷ part_comes 0 (
+    ∷ part_fetched 0 (
     (Restart 1, Restarted)
     ∷ (Claim 1 1, Claimed (part 0 1 1))
     ∷ (Publish 1 (whole doc abc), Published 1 1 2)
@@ -452,7 +452,7 @@ informed_of_all later =
     ∷ (Claim 1 1, Claimed (part 0 1 0))
     ∷ (Lose 1 1, Lost (part 0 1 0))
     ∷ (Deliver 1 1, Delivered Steady)
-    ∷ part_comes 0 (part_comes 1 (part_comes 2 (part_comes 3 later)))
+    ∷ part_fetched 0 (part_fetched 1 (part_fetched 2 (part_fetched 3 later)))
 
 -- Then both list it, and nothing is left to claim.
 abbrev pub InformedOfAll : Type 0
@@ -466,5 +466,5 @@ InformedOfAll = Plays plain_outside 2 (informed_of_all (
 -- The join of all is that one entry.
 abbrev pub JoinOfThem : Type 0
 JoinOfThem =
-    join_of (logs (after_events plain_outside (opening_world plain_outside 2) (map (λ l. l.0) (informed_of_all []))))
+    join_of (logs (after_events plain_outside (initial_world plain_outside 2) (map (λ l. l.0) (informed_of_all []))))
     ≡ entry 0 1 doc 3 3 abc ∷ []

@@ -16,7 +16,7 @@ use Rattle.group_model.specs.Replies.Reply.{Answered, Settled, Dumped, Commanded
 use Rattle.group_model.specs.World.{Environment}
 use Rattle.group_model.specs.Refusals.{refusal}
 use Rattle.group_model.specs.Refusals.Refusal.{NumbersSpent, NoSuchNumber}
-use Rattle.group_model.specs.Examples.{plain_outside, Plays, Refuses, abc, doc, whole, entry, part, part_comes}
+use Rattle.group_model.specs.Examples.{plain_outside, Plays, Refuses, abc, doc, whole, entry, part, part_fetched}
 use Rattle.group_model.specs.Examples.{after_so_many, deletion_reply}
 
 -- ---- withdrawals
@@ -66,7 +66,7 @@ abbrev pub WithdrawnAfter : Type 0
 WithdrawnAfter = Plays plain_outside 2 (
     (Publish 0 (whole doc abc), Published 1 1 1)
     ∷ (Deliver 1 1, Delivered Steady)
-    ∷ part_comes 0 (part_comes 1 (
+    ∷ part_fetched 0 (part_fetched 1 (
     (Withdraw 0 1, Withdrawn 2 1 2)
     ∷ (Catalogue 0, Entries [])
     ∷ (Deliver 2 1, Delivered Steady)

@@ -10,13 +10,13 @@ use Rattle.repo_process.specs.Processes.BlockState.{Whole}
 use Rattle.group_model.specs.Member.{plan_of}
 use Rattle.group_model.specs.Events.{Event}
 use Rattle.group_model.specs.World.{Environment, World, member, logs, sent_at, catalogue_at}
-use Rattle.group_model.specs.Steps.{reports_too_much, block_at, after_event, after_events}
+use Rattle.group_model.specs.Steps.{exceeds_log, block_at, after_event, after_events}
 use Rattle.group_model.specs.Refusals.{EventsAreTaken}
 use Rattle.group_model.specs.Sound.{IsPublishedPart}
 
 -- No member has deleted anything.
-abbrev pub NothingHidden : World → Type 0
-NothingHidden w = (j : ℕ) → j < length w.members → (member w j).hidden ≡ []
+abbrev pub NothingDeleted : World → Type 0
+NothingDeleted w = (j : ℕ) → j < length w.members → (member w j).hidden ≡ []
 
 -- No member wants a part.
 abbrev pub NothingWanted : World → Type 0
@@ -42,33 +42,33 @@ IsQuiet w _ = Unit {0}
 
 -- No event of a list publishes anything.
 abbrev pub AreQuiet : Environment → World → List Event → Type 0
-AreQuiet out w [] = Unit {0}
-AreQuiet out w (e ∷ es) = IsQuiet w e × AreQuiet out (after_event out w e) es
+AreQuiet env w [] = Unit {0}
+AreQuiet env w (e ∷ es) = IsQuiet w e × AreQuiet env (after_event env w e) es
 
 -- The event tells member j of all that p has published: a vector comes whose place p is the number of p's last
 -- publication.
-abbrev pub ReportsInEvent : World → Event → ℕ → ℕ → Type 0
-ReportsInEvent w (Event.Deliver k i) j p = (i ≡ j) × (slice_index (sent_at w k).vector p ≡ last_of (logs w) p)
-ReportsInEvent w (Event.Hear i (Some sync)) j p =
-    (i ≡ j) × (reports_too_much w i sync ≡ false) × (slice_index sync.vector p ≡ last_of (logs w) p)
-ReportsInEvent w _ j p = ⊥
+abbrev pub HearsAllInEvent : World → Event → ℕ → ℕ → Type 0
+HearsAllInEvent w (Event.Deliver k i) j p = (i ≡ j) × (slice_index (sent_at w k).vector p ≡ last_of (logs w) p)
+HearsAllInEvent w (Event.Hear i (Some sync)) j p =
+    (i ≡ j) × (exceeds_log w i sync ≡ false) × (slice_index sync.vector p ≡ last_of (logs w) p)
+HearsAllInEvent w _ j p = ⊥
 
 -- An event of a list tells member j of all that p has published by then.
-abbrev pub ReportsInRun : Environment → World → List Event → ℕ → ℕ → Type 0
-ReportsInRun out w [] j p = ⊥
-ReportsInRun out w (e ∷ es) j p = ReportsInEvent w e j p ⊎ ReportsInRun out (after_event out w e) es j p
+abbrev pub HearsAllInRun : Environment → World → List Event → ℕ → ℕ → Type 0
+HearsAllInRun env w [] j p = ⊥
+HearsAllInRun env w (e ∷ es) j p = HearsAllInEvent w e j p ⊎ HearsAllInRun env (after_event env w e) es j p
 
 -- Events that publish nothing, and that tell each member of all that each other has published.
-pub record ReportsAll (out : Environment) (w : World) (es : List Event) : Type 0 where
-  pub quiet : AreQuiet out w es
-  pub reported : (j p : ℕ) → j < length w.members → p < length w.members → p ≢ j → ReportsInRun out w es j p
+pub record EachHearsAll (env : Environment) (w : World) (es : List Event) : Type 0 where
+  pub quiet : AreQuiet env w es
+  pub received : (j p : ℕ) → j < length w.members → p < length w.members → p ≢ j → HearsAllInRun env w es j p
 
 -- Where all know of all from here on, and nothing is wanted or hidden in the end, each catalogue is the join of all
 -- publications, whatever else happens.
 abbrev pub JoinsWhereAllAreInformed : Environment → World → Type 0
-JoinsWhereAllAreInformed out w = (es : List Event) → EventsAreTaken out w es → ReportsAll out w es →
-    let last = after_events out w es in
-    NothingHidden last → NothingWanted last → AllJoined last
+JoinsWhereAllAreInformed env w = (es : List Event) → EventsAreTaken env w es → EachHearsAll env w es →
+    let last = after_events env w es in
+    NothingDeleted last → NothingWanted last → AllJoined last
 
 -- ---- the parts that there are
 

@@ -10,7 +10,7 @@ use Rattle.repo_command.specs.declared.command.Command.{Command}
 use Rattle.repo_command.specs.declared.command.Command.TheVariants.{Insert}
 use Rattle.group_model.specs.Member.{Member, tries_of}
 use Rattle.group_model.specs.Events.{Event}
-use Rattle.group_model.specs.World.{Tally, World, Environment, member, logs, opening_world}
+use Rattle.group_model.specs.World.{Tally, World, Environment, member, logs, initial_world}
 use Rattle.group_model.specs.Steps.{after_gathering, after_event, after_events}
 use Rattle.group_model.specs.Refusals.{EventsAreTaken}
 use Rattle.group_model.specs.Sound.{IsSoundGroup}
@@ -66,27 +66,27 @@ pub record IsWithinSteps (steps : ℕ) (w : World) : Type 0 where
 
 -- The packets of its parts have at most 8,800 octets.
 abbrev pub HasSmallPackets : Environment → World → Type 0
-HasSmallPackets out w = (t : Part) → out.size (logs w) t ≤ 8800
+HasSmallPackets env w = (t : Part) → env.size (logs w) t ≤ 8800
 
 -- So it is before each event of a list.
 abbrev pub AreSmall : Environment → World → List Event → Type 0
-AreSmall out w [] = Unit {0}
-AreSmall out w (e ∷ es) = HasSmallPackets out w × AreSmall out (after_event out w e) es
+AreSmall env w [] = Unit {0}
+AreSmall env w (e ∷ es) = HasSmallPackets env w × AreSmall env (after_event env w e) es
 
 -- A group in which nothing has happened is within the counts of no event.
 abbrev pub BeginsWithin : Type 0
-BeginsWithin = (out : Environment) (n : ℕ) → IsWithinSteps 0 (opening_world out n)
+BeginsWithin = (env : Environment) (n : ℕ) → IsWithinSteps 0 (initial_world env n)
 
 -- A group of at most 16 members that is within the counts of at most 100,000 events is within those of one more after
 -- an event.
 abbrev pub StaysWithin : Type 0
-StaysWithin = (out : Environment) (steps : ℕ) (w : World) (e : Event) → steps ≤ 100000 → length w.members ≤ 16
-    → HasSmallPackets out w → IsInRange e → IsWithinSteps steps w → IsWithinSteps (steps + 1) (after_event out w e)
+StaysWithin = (env : Environment) (steps : ℕ) (w : World) (e : Event) → steps ≤ 100000 → length w.members ≤ 16
+    → HasSmallPackets env w → IsInRange e → IsWithinSteps steps w → IsWithinSteps (steps + 1) (after_event env w e)
 
 -- So it is after a settle but for the machines.
 abbrev pub GatheringStaysWithin : Type 0
-GatheringStaysWithin = (out : Environment) (steps : ℕ) (w : World) → steps ≤ 100000 → length w.members ≤ 16
-    → HasSmallPackets out w → IsWithinSteps steps w → IsWithinSteps (steps + 1) (after_gathering out w)
+GatheringStaysWithin = (env : Environment) (steps : ℕ) (w : World) → steps ≤ 100000 → length w.members ≤ 16
+    → HasSmallPackets env w → IsWithinSteps steps w → IsWithinSteps (steps + 1) (after_gathering env w)
 
 -- The counts of more events are wider.
 abbrev pub MoreIsWithin : Type 0
@@ -94,15 +94,15 @@ MoreIsWithin = (steps more : ℕ) (w : World) → steps ≤ more → IsWithinSte
 
 -- A run stays within the counts of its events, wherever it begins.
 abbrev pub RunsStayWithin : Type 0
-RunsStayWithin = (out : Environment) (steps : ℕ) (w : World) (es : List Event) → IsSoundGroup w
-    → steps + length es ≤ 100000 → length w.members ≤ 16 → EventsAreTaken out w es → AreInRange es → AreSmall out w es
-    → IsWithinSteps steps w → IsWithinSteps (steps + length es) (after_events out w es)
+RunsStayWithin = (env : Environment) (steps : ℕ) (w : World) (es : List Event) → IsSoundGroup w
+    → steps + length es ≤ 100000 → length w.members ≤ 16 → EventsAreTaken env w es → AreInRange es → AreSmall env w es
+    → IsWithinSteps steps w → IsWithinSteps (steps + length es) (after_events env w es)
 
 -- So does every run from the beginning of a group.
 abbrev pub ReachedRunsStayWithin : Type 0
-ReachedRunsStayWithin = (out : Environment) (n : ℕ) (es : List Event) → n ≤ 16 → length es ≤ 100000
-    → EventsAreTaken out (opening_world out n) es → AreInRange es → AreSmall out (opening_world out n) es
-    → IsWithinSteps (length es) (after_events out (opening_world out n) es)
+ReachedRunsStayWithin = (env : Environment) (n : ℕ) (es : List Event) → n ≤ 16 → length es ≤ 100000
+    → EventsAreTaken env (initial_world env n) es → AreInRange es → AreSmall env (initial_world env n) es
+    → IsWithinSteps (length es) (after_events env (initial_world env n) es)
 
 -- Within these counts there are at most 2,010,100,000 parts.
 abbrev pub PartsStayFew : Type 0

@@ -8,7 +8,7 @@ use Rattle.sorted_lists.specs.SortedList.{contains, insert_key, value_of, with_v
 use Rattle.repo_plan.specs.Parts.{Pair, pair_cmp, part_cmp, pair_of, part_of}
 use Rattle.repo_plan.specs.declared.shape.Shape.{Shape}
 use Rattle.repo_plan.specs.Plan.{PlanState, no_claims, is_in}
-use Rattle.svs_sync.specs.KeptVector.{Keeper}
+use Rattle.svs_sync.specs.SyncStates.{SyncState}
 use Rattle.repo_object.specs.Objects.{Post}
 use Rattle.repo_catalog.specs.declared.entry.Entry.{Entry}
 use Rattle.group_model.specs.Publications.{Logs, Publication, shape_at, pair_in, parts_in, published, published_entry}
@@ -24,7 +24,7 @@ pub record Member : Type 0 where
   pub hidden : List Pair  -- what it deleted, in order
   pub claims : List (Option Part)  -- by fetcher; the first stands at place 0
   pub attempts : List (Part × ℕ)  -- in order, without 0
-  pub machine : Keeper
+  pub machine : SyncState
   pub processes : List (ℕ × Process)  -- insertion processes, by number
   pub next_process : ℕ
 
@@ -33,21 +33,21 @@ abbrev pub member_holds : Member → Part → Bool
 member_holds m t = contains part_cmp m.held t
 
 -- It has deleted the publication.
-abbrev pub member_hides : Member → Pair → Bool
-member_hides m pair = contains pair_cmp m.hidden pair
+abbrev pub has_deleted : Member → Pair → Bool
+has_deleted m pair = contains pair_cmp m.hidden pair
 
 -- ---- wanted parts
 
 -- What the held records say of the parts of their publications.
-abbrev pub reported_by : Logs → List Part → List (Pair × Shape)
-reported_by logs held = map (λ t. (pair_of t, shape_at logs (pair_of t))) (filter (λ t. t.part == 0) held)
+abbrev pub held_shapes : Logs → List Part → List (Pair × Shape)
+held_shapes logs held = map (λ t. (pair_of t, shape_at logs (pair_of t))) (filter (λ t. t.part == 0) held)
 
 -- The fetch plan of a member. What it wants and what its fetchers claim is read there.
 abbrev pub plan_of : Logs → Member → PlanState
 plan_of logs m = record {
   known = m.known;
   held = m.held;
-  shapes = reported_by logs m.held;
+  shapes = held_shapes logs m.held;
   claims = m.claims;
   hidden = m.hidden;
   attempts = m.attempts;
@@ -93,16 +93,16 @@ abbrev pub gains : List Part → Member → Member
 gains ts m = record m { held = insert_keys ts m.held }
 
 -- A publication is hidden for good, and none of its parts is held.
-abbrev pub member_hides_too : Pair → Member → Member
-member_hides_too pair m = record m {
+abbrev pub deletes_publication : Pair → Member → Member
+deletes_publication pair m = record m {
   held = filter (λ t. not (is_in pair t)) m.held;
   hidden = insert_key pair_cmp pair m.hidden;
 }
 
 -- It hides these publications.
-abbrev pub member_hides_all : List Publication → Member → Member
-member_hides_all [] m = m
-member_hides_all (p ∷ ps) m = member_hides_all ps (member_hides_too (pair_in p) m)
+abbrev pub deletes_all : List Publication → Member → Member
+deletes_all [] m = m
+deletes_all (p ∷ ps) m = deletes_all ps (deletes_publication (pair_in p) m)
 
 -- How often a part was tried, and so many attempts more.
 abbrev pub tries_of : List (Part × ℕ) → Part → ℕ

@@ -1,4 +1,4 @@
--- What a member comes to, taken by itself: over any publications, with no world and no other member.
+-- A member taken by itself: over any publications, with no world and no other member.
 use Rattle.std.specs.Prelude.{ℕ, ◌<◌, ◌≤◌, ◌≡◌, List, [], length, slice_index}
 use Rattle.repo_plan.specs.Plan.{wanted}
 use Rattle.group_model.specs.Publications.{Logs, last_of, join_of}

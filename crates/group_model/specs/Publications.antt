@@ -1,11 +1,11 @@
--- What the members of a group have published, and the parts that it comes to. Members count from 0, the publications of
+-- What the members of a group have published, and the parts of that. Members count from 0, the publications of
 -- one from 1.
 use Rattle.std.specs.Prelude.{ℕ, ◌+◌, ◌-◌, nat_le, Bool, not, ◌&&◌, ◌==◌, List, [], ◌∷◌, ◌++◌, map, filter, length}
 use Rattle.std.specs.Prelude.{is_some, unwrap_or, slice_index_or, flat_map}
 use Rattle.std.specs.List.{concat, list_any}
 use Rattle.sha2.specs.Sha256.{sha256}
 use Rattle.repo_plan.specs.declared.part.Part.{Part}
-use Rattle.repo_plan.specs.Parts.{Pair, parts_of, parts_after}
+use Rattle.repo_plan.specs.Parts.{Pair, parts_of, last_part}
 use Rattle.repo_plan.specs.declared.shape.Shape.{Shape}
 use Rattle.repo_object.specs.Objects.{NamedContents, Post, offered, shape_in, withdraws_number}
 use Rattle.repo_object.specs.Objects.Post.{Offers}
@@ -37,7 +37,7 @@ shape_at logs pair = shape_in (post_at logs pair)
 
 -- How many parts a publication has besides its record.
 abbrev pub count : Logs → Pair → ℕ
-count logs pair = parts_after (shape_at logs pair)
+count logs pair = last_part (shape_at logs pair)
 
 -- ---- all publications
 
@@ -68,7 +68,7 @@ published logs = published_from 0 logs
 
 -- The parts of a publication: its record, its index packets, and its segments.
 abbrev pub parts_in : Publication → List Part
-parts_in p = parts_of (pair_in p) (parts_after (shape_in p.post))
+parts_in p = parts_of (pair_in p) (last_part (shape_in p.post))
 
 -- All parts that there are, in order of publisher, number and part.
 abbrev pub all_parts : Logs → List Part

@@ -9,10 +9,10 @@ use Rattle.repo_process.specs.Processes.BlockState.{Whole}
 use Rattle.repo_command.specs.declared.command.Command.{Command}
 use Rattle.group_model.specs.Publications.{has_unwithdrawn}
 use Rattle.group_model.specs.Commands.{is_equal_command}
-use Rattle.group_model.specs.Events.{SyncInterest, Came, Event}
-use Rattle.group_model.specs.Events.Came.{Another}
+use Rattle.group_model.specs.Events.{SyncInterest, Response, Event}
+use Rattle.group_model.specs.Events.Response.{Another}
 use Rattle.group_model.specs.World.{World, Environment, member}
-use Rattle.group_model.specs.Steps.{claim_at, came_from, came_as, reports_too_much, block_at, after_event}
+use Rattle.group_model.specs.Steps.{claim_at, response_from, response_read, exceeds_log, block_at, after_event}
 
 -- Why an event is refused.
 pub data Refusal : Type 0 where
@@ -55,7 +55,7 @@ if_idle None = Some Refusal.FetcherIdle
 if_idle (Some t) = None
 
 -- There is no claim that it came for, or it passes its checks and isn't the publisher's packet.
-abbrev pub if_idle_or_foreign : Option Part → Came → Option Refusal
+abbrev pub if_idle_or_foreign : Option Part → Response → Option Refusal
 if_idle_or_foreign None came = Some Refusal.FetcherIdle
 if_idle_or_foreign (Some t) Another = Some Refusal.Foreign
 if_idle_or_foreign (Some t) _ = None
@@ -63,7 +63,7 @@ if_idle_or_foreign (Some t) _ = None
 -- A vector that reports too many publications of the member itself is refused for that, and not as foreign.
 abbrev pub if_unsent : World → ℕ → Option SyncInterest → Option Refusal
 if_unsent w j None = None
-if_unsent w j (Some sync) = if reports_too_much w j sync then None else unless (has_sent w sync) Refusal.Foreign
+if_unsent w j (Some sync) = if exceeds_log w j sync then None else unless (has_sent w sync) Refusal.Foreign
 
 -- A command that passes its checks was made for the member.
 abbrev pub if_unissued : World → ℕ → Result (ℕ × Command) ℕ → Option Refusal
@@ -86,18 +86,18 @@ if_whole w j _ = None
 
 -- What refuses an event, if something does.
 abbrev pub refusal : Environment → World → Event → Option Refusal
-refusal out w (Event.Publish j o) = if_spent w j
-refusal out w (Event.Withdraw j seq) = if_no_object_or_spent w j seq
-refusal out w (Event.Deliver k j) = unless_sent w k
-refusal out w (Event.Sync k) = unless_sent w k
-refusal out w (Event.Claim j f) = if_busy (claim_at w j f)
-refusal out w (Event.Lose j f) = if_idle (claim_at w j f)
-refusal out w (Event.Answer j f q) = if_idle_or_foreign (claim_at w j f) (came_from out w q (claim_at w j f))
-refusal out w (Event.Hear j read) = if_unsent w j read
-refusal out w (Event.Feed j f read) = if_idle_or_foreign (claim_at w j f) (came_as w read (claim_at w j f))
-refusal out w (Event.Order j read) = if_unissued w j read
-refusal out w (Event.Block j process index content) = if_whole w j (block_at w j process index content)
-refusal out w _ = None
+refusal env w (Event.Publish j o) = if_spent w j
+refusal env w (Event.Withdraw j seq) = if_no_object_or_spent w j seq
+refusal env w (Event.Deliver k j) = unless_sent w k
+refusal env w (Event.Sync k) = unless_sent w k
+refusal env w (Event.Claim j f) = if_busy (claim_at w j f)
+refusal env w (Event.Lose j f) = if_idle (claim_at w j f)
+refusal env w (Event.Answer j f q) = if_idle_or_foreign (claim_at w j f) (response_from env w q (claim_at w j f))
+refusal env w (Event.Hear j read) = if_unsent w j read
+refusal env w (Event.Feed j f read) = if_idle_or_foreign (claim_at w j f) (response_read w read (claim_at w j f))
+refusal env w (Event.Order j read) = if_unissued w j read
+refusal env w (Event.Block j process index content) = if_whole w j (block_at w j process index content)
+refusal env w _ = None
 
 -- ---- events that are taken
 
@@ -132,11 +132,11 @@ NamesThose w Event.Summary = Unit {0}
 NamesThose w Event.Traffic = Unit {0}
 
 -- An event that is not refused, of members and fetchers that are there.
-pub record EventIsTaken (out : Environment) (w : World) (e : Event) : Type 0 where
+pub record EventIsTaken (env : Environment) (w : World) (e : Event) : Type 0 where
   pub named : NamesThose w e
-  pub taken : refusal out w e ≡ None
+  pub taken : refusal env w e ≡ None
 
 -- Each event of a list is taken when its turn comes.
 abbrev pub EventsAreTaken : Environment → World → List Event → Type 0
-EventsAreTaken out w [] = Unit {0}
-EventsAreTaken out w (e ∷ es) = EventIsTaken out w e × EventsAreTaken out (after_event out w e) es
+EventsAreTaken env w [] = Unit {0}
+EventsAreTaken env w (e ∷ es) = EventIsTaken env w e × EventsAreTaken env (after_event env w e) es

@@ -1,4 +1,4 @@
--- What is reported of an event: by the event, and as one of all replies.
+-- The outcome of an event, and the same as one of all replies.
 use Rattle.std.specs.Prelude.{ℕ, Bool, List, Option, Some, None, Result, Ok, Err, if◌then◌else◌}
 use Rattle.repo_plan.specs.declared.part.Part.{Part}
 use Rattle.svs_sync.specs.declared.fired.Fired.{Fired}
@@ -10,7 +10,7 @@ use Rattle.repo_process.specs.Processes.BlockState.{Unknown, Already, Waiting, W
 use Rattle.group_model.specs.Events.{SyncInterest, Found, Event}
 use Rattle.svs_sync.specs.declared.fired.Fired.TheVariants as fired
 
--- What a catalogue comes to: entries, segments and octets.
+-- The totals of a catalogue: entries, segments and octets.
 pub record CatalogueTotals : Type 0 where
   pub entries : ℕ
   pub segments : ℕ
@@ -43,7 +43,7 @@ pub record SettleOutcome : Type 0 where
   pub syncs : ℕ
   pub kept : ℕ
 
--- What a block comes to, and the numbers of the next publication and of the next sync Interest.
+-- The state of a block, and the numbers of the next publication and of the next sync Interest.
 pub record BlockOutcome : Type 0 where
   pub state : BlockState
   pub seq : ℕ
@@ -63,7 +63,7 @@ abbrev pub HearOutcome : Option SyncInterest → Type 0
 HearOutcome None = Unit {0}
 HearOutcome (Some sync) = Result Mode (ℕ × ℕ)
 
--- What is reported of each event.
+-- The outcome of each event.
 abbrev pub OutcomeOf : Event → Type 0
 OutcomeOf (Event.Publish j o) = PublishOutcome
 OutcomeOf (Event.Withdraw j seq) = WithdrawOutcome
@@ -112,7 +112,7 @@ pub data Reply : Type 0 where
   Dumped : (part : Option Part) → Reply
   Heard : (mode : Mode) → Reply
   HearRefused : Reply
-  OwnNumberAhead : (own reported : ℕ) → Reply
+  OwnNumberAhead : (own outcome : ℕ) → Reply
   Asked : (found : Found) → Reply
   Fed : (kept : Bool) → Reply
   Commanded : (answer : Answer) → Reply
@@ -146,29 +146,29 @@ block_reply seq sync Already = Reply.BlockLate
 block_reply seq sync (Waiting p) = Reply.BlockKept
 block_reply seq sync (Whole p) = Reply.BlockPublished seq sync
 
--- What is reported of an event, as a reply.
+-- The outcome of an event, as a reply.
 abbrev pub reply_of : (e : Event) → OutcomeOf e → Reply
-reply_of (Event.Publish j o) reported = Reply.Published reported.seq reported.segments reported.sync
-reply_of (Event.Withdraw j seq) reported = Reply.Withdrawn reported.seq seq reported.sync
+reply_of (Event.Publish j o) outcome = Reply.Published outcome.seq outcome.segments outcome.sync
+reply_of (Event.Withdraw j seq) outcome = Reply.Withdrawn outcome.seq seq outcome.sync
 reply_of (Event.Deliver k j) mode = Reply.Delivered mode
 reply_of (Event.Sync k) sync = Reply.Synced sync
 reply_of (Event.Advance ms) time = Reply.Advanced time
-reply_of (Event.Fire j) reported = fire_reply reported.sync reported.timer
-reply_of (Event.Restart j) reported = Reply.Restarted
+reply_of (Event.Fire j) outcome = fire_reply outcome.sync outcome.timer
+reply_of (Event.Restart j) outcome = Reply.Restarted
 reply_of (Event.Vector j) vector = Reply.Numbers vector
 reply_of (Event.Catalogue j) entries = Reply.Entries entries
 reply_of (Event.Claim j f) part = Reply.Claimed part
 reply_of (Event.Lose j f) part = Reply.Lost part
 reply_of (Event.Answer j f q) kept = Reply.Answered kept
-reply_of (Event.Fetch j tries loss) reported = Reply.Fetched reported.planned reported.kept reported.attempts
-reply_of Event.Settle reported = Reply.Settled reported.syncs reported.kept
+reply_of (Event.Fetch j tries loss) outcome = Reply.Fetched outcome.planned outcome.kept outcome.attempts
+reply_of Event.Settle outcome = Reply.Settled outcome.syncs outcome.kept
 reply_of (Event.Dump j t) held = Reply.Dumped (if held then Some t else None)
 reply_of (Event.Hear j read) heard = hear_reply read heard
 reply_of (Event.Ask j find) found = Reply.Asked found
 reply_of (Event.Feed j f read) kept = Reply.Fed kept
 reply_of (Event.Order j read) answer = Reply.Commanded answer
 reply_of (Event.Issue j client command) answer = Reply.Commanded answer
-reply_of (Event.Block j process index content) reported = block_reply reported.seq reported.sync reported.state
+reply_of (Event.Block j process index content) outcome = block_reply outcome.seq outcome.sync outcome.state
 reply_of Event.Summary totals = Reply.Summed totals
-reply_of Event.Traffic reported = Reply.Counted reported.syncs reported.delivered reported.attempts reported.parts
-    reported.octets
+reply_of Event.Traffic outcome = Reply.Counted outcome.syncs outcome.delivered outcome.attempts outcome.parts
+    outcome.octets

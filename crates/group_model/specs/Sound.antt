@@ -6,7 +6,7 @@ use Rattle.sorted_lists.specs.SortedList.{contains, keys, value_of, Rises}
 use Rattle.repo_plan.specs.Parts.{Pair, pair_cmp, part_cmp, pair_of, part_of, record_of, parent}
 use Rattle.repo_plan.specs.Plan.{is_wanted}
 use Rattle.group_model.specs.Publications.{Logs, last_of, count, shape_at}
-use Rattle.group_model.specs.Member.{Member, member_holds, member_hides, plan_of}
+use Rattle.group_model.specs.Member.{Member, member_holds, has_deleted, plan_of}
 use Rattle.group_model.specs.World.{World, no_sync, member, logs}
 
 -- There is such a publication.
@@ -25,13 +25,13 @@ pub record IsKnown (known : List ℕ) (pair : Pair) : Type 0 where
   pub to_known : pair.1 ≤ slice_index known pair.0
 
 -- A vector reports no publication that there isn't.
-abbrev pub ReportsNoMore : Logs → List ℕ → Type 0
-ReportsNoMore logs v = (p : ℕ) → slice_index v p ≤ last_of logs p
+abbrev pub IsWithinLogs : Logs → List ℕ → Type 0
+IsWithinLogs logs v = (p : ℕ) → slice_index v p ≤ last_of logs p
 
 -- Such a vector, with one number a member.
 pub record IsConsistentVector (logs : Logs) (v : List ℕ) : Type 0 where
   pub width : length v ≡ length logs
-  pub no_more : ReportsNoMore logs v
+  pub no_more : IsWithinLogs logs v
 
 -- The join of the vectors that were heard since the member was last Steady.
 abbrev pub HeardConsistently : Logs → Option (List ℕ) → Type 0
@@ -53,7 +53,7 @@ pub record IsHeldSoundly (logs : Logs) (vector : List ℕ) (held : List Part) (t
   pub with_parent : contains part_cmp held (parent (shape_at logs (pair_of t)) t) ≡ true
 
 -- A hidden publication is known, and no part of it is held.
-pub record IsHiddenSoundly (m : Member) (pair : Pair) : Type 0 where
+pub record IsDeletedSoundly (m : Member) (pair : Pair) : Type 0 where
   pub known : IsKnown m.known pair
   pub none_held : (x : ℕ) → member_holds m (part_of pair x) ≡ false
 
@@ -63,13 +63,13 @@ pub record IsSoundMember (logs : Logs) (j : ℕ) (m : Member) : Type 0 where
   pub width : length m.known ≡ length logs
   pub fetchers : length m.claims ≡ 16
   pub in_order : IsMemberInOrder m
-  pub known : ReportsNoMore logs m.known
+  pub known : IsWithinLogs logs m.known
   pub own : slice_index m.known j ≡ last_of logs j
   pub heard : HeardConsistently logs m.machine.heard
   pub held : (t : Part) → member_holds m t ≡ true → IsHeldSoundly logs m.known m.held t
-  pub hidden : (pair : Pair) → member_hides m pair ≡ true → IsHiddenSoundly m pair
+  pub hidden : (pair : Pair) → has_deleted m pair ≡ true → IsDeletedSoundly m pair
   pub own_held : (s : ℕ) → IsPublished logs (j, s)
-      → (member_hides m (j, s) ≡ true) ⊎ ((x : ℕ) → x ≤ count logs (j, s) → member_holds m (part_of (j, s) x) ≡ true)
+      → (has_deleted m (j, s) ≡ true) ⊎ ((x : ℕ) → x ≤ count logs (j, s) → member_holds m (part_of (j, s) x) ≡ true)
   pub claimed : (f : ℕ) (t : Part) → slice_index_or m.claims f None ≡ Some t → is_wanted (plan_of logs m) t ≡ true
   pub apart : (f g : ℕ) (t : Part) → slice_index_or m.claims f None ≡ Some t → slice_index_or m.claims g None ≡ Some t
       → f ≡ g

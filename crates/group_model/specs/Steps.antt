@@ -1,4 +1,4 @@
--- What each event makes of a group, and what is reported of it.
+-- The world after each event, and the reply to it.
 use Rattle.std.specs.Prelude.{ℕ, ◌+◌, ◌-◌, ◌*◌, Bool, true, false, not, List, [], ◌∷◌, ◌++◌, map, length, take, Option}
 use Rattle.std.specs.Prelude.{Some, None, is_some, unwrap_or, Result, Ok, Err, slice_index, slice_set, nat_le, nat_lt}
 use Rattle.std.specs.Prelude.{◌==◌, ◌&&◌, if◌then◌else◌, filter, find, sum_by}
@@ -13,7 +13,7 @@ use Rattle.svs_sync.specs.declared.fired.Fired.{Fired}
 use Rattle.svs_sync.specs.declared.fired.Fired.TheVariants.{Early, Quiet, Send}
 use Rattle.svs_sync.specs.declared.mode.Mode.{Mode}
 use Rattle.svs_sync.specs.Suppression.{mode_of}
-use Rattle.svs_sync.specs.KeptVector.{fires_kept}
+use Rattle.svs_sync.specs.SyncStates.{fires_joined}
 use Rattle.repo_object.specs.Objects.{Post}
 use Rattle.repo_object.specs.Objects.Post.{Offers, Withdraws}
 use Rattle.repo_catalog.specs.declared.entry.Entry.{Entry}
@@ -24,12 +24,12 @@ use Rattle.repo_command.specs.declared.command.Command.{Command}
 use Rattle.repo_command.specs.declared.answer.Answer.{Answer}
 use Rattle.repo_command.specs.Answers.{code_only}
 use Rattle.repo_command.specs.declared.command.Command.TheVariants.{Insert, Check, Delete}
-use Rattle.group_model.specs.Member.{Member, member_holds, member_hides, plan_of, catalogued_under, gains}
-use Rattle.group_model.specs.Member.{member_hides_all, tries_of, with_each_tried, member_without_claims}
+use Rattle.group_model.specs.Member.{Member, member_holds, has_deleted, plan_of, catalogued_under, gains}
+use Rattle.group_model.specs.Member.{deletes_all, tries_of, with_each_tried, member_without_claims}
 use Rattle.group_model.specs.Changes.{resets, publishes, learns, restarts, member_with_claim, takes}
 use Rattle.group_model.specs.Changes.{member_with_process, member_starts}
-use Rattle.group_model.specs.Events.{SyncInterest, Came, Event}
-use Rattle.group_model.specs.Events.Came.{Nothing, Its, Another}
+use Rattle.group_model.specs.Events.{SyncInterest, Response, Event}
+use Rattle.group_model.specs.Events.Response.{Nothing, Its, Another}
 use Rattle.group_model.specs.Replies.{CatalogueTotals, HearOutcome, OutcomeOf, Reply, reply_of}
 use Rattle.group_model.specs.World.{Issued, World, Environment, no_member, member, with_member, logs, sent_at}
 use Rattle.group_model.specs.World.{catalogue_at}
@@ -42,12 +42,12 @@ abbrev pub claim_at : World → ℕ → ℕ → Option Part
 claim_at w j f = claim_of (plan_of (logs w) (member w j)) f
 
 -- The wanted parts of a member that none of its fetchers claims, in order. A fetcher claims the first.
-abbrev pub open_at : World → ℕ → List Part
-open_at w j = unclaimed (plan_of (logs w) (member w j))
+abbrev pub unclaimed_at : World → ℕ → List Part
+unclaimed_at w j = unclaimed (plan_of (logs w) (member w j))
 
 -- The part that a fetcher would claim.
 abbrev pub to_claim : World → ℕ → Option Part
-to_claim w j = first (open_at w j)
+to_claim w j = first (unclaimed_at w j)
 
 -- It claims that part, where there is one.
 abbrev pub after_claiming : World → ℕ → ℕ → Option Part → World
@@ -62,29 +62,29 @@ with_sync w j = record w { sent = w.sent ++ record { sender = j; vector = (membe
 
 -- What the timer of a member says.
 abbrev pub timer_at : World → ℕ → Fired
-timer_at w j = fires_kept w.time (member w j).known (member w j).machine
+timer_at w j = fires_joined w.time (member w j).known (member w j).machine
 
 -- A vector reports more publications of the member than there are.
-abbrev pub reports_too_much : World → ℕ → SyncInterest → Bool
-reports_too_much w j sync = nat_lt (length (member w j).log) (slice_index sync.vector j)
+abbrev pub exceeds_log : World → ℕ → SyncInterest → Bool
+exceeds_log w j sync = nat_lt (length (member w j).log) (slice_index sync.vector j)
 
 -- ---- parts that come
 
 -- What came passes the checks of the claimed part.
-abbrev pub passes_checks : Came → Bool
+abbrev pub passes_checks : Response → Bool
 passes_checks Nothing = false
 passes_checks Its = true
 passes_checks Another = true
 
 -- What member q gives for a claim.
-abbrev pub came_from : Environment → World → ℕ → Option Part → Came
-came_from out w q None = Nothing
-came_from out w q (Some t) = out.serves (logs w) (member w q).held t
+abbrev pub response_from : Environment → World → ℕ → Option Part → Response
+response_from env w q None = Nothing
+response_from env w q (Some t) = env.serves (logs w) (member w q).held t
 
 -- What octets are for a claim.
-abbrev pub came_as : World → (Logs → Part → Came) → Option Part → Came
-came_as w read None = Nothing
-came_as w read (Some t) = read (logs w) t
+abbrev pub response_read : World → (Logs → Part → Response) → Option Part → Response
+response_read w read None = Nothing
+response_read w read (Some t) = read (logs w) t
 
 -- One attempt more was made.
 abbrev pub tried_once : World → World
@@ -92,16 +92,16 @@ tried_once w = record w { tally = record w.tally { attempts = w.tally.attempts +
 
 -- A fetcher's claim is over with its part held, and the part is counted.
 abbrev pub after_part : Environment → World → ℕ → ℕ → Part → World
-after_part out w j f t = record (with_member w j (takes f t (member w j))) {
-  tally = record w.tally { parts = w.tally.parts + 1; octets = w.tally.octets + out.size (logs w) t };
+after_part env w j f t = record (with_member w j (takes f t (member w j))) {
+  tally = record w.tally { parts = w.tally.parts + 1; octets = w.tally.octets + env.size (logs w) t };
 }
 
 -- The claim is over where what came for it passes its checks.
-abbrev pub after_came : Environment → World → ℕ → ℕ → Option Part → Came → World
-after_came out w j f None came = w
-after_came out w j f (Some t) Nothing = w
-after_came out w j f (Some t) Its = after_part out w j f t
-after_came out w j f (Some t) Another = after_part out w j f t
+abbrev pub after_response : Environment → World → ℕ → ℕ → Option Part → Response → World
+after_response env w j f None response = w
+after_response env w j f (Some t) Nothing = w
+after_response env w j f (Some t) Its = after_part env w j f t
+after_response env w j f (Some t) Another = after_part env w j f t
 
 -- ---- a settle
 
@@ -111,19 +111,19 @@ settled_vector w = join_all (map (λ m. m.known) w.members)
 
 -- A part of a publication that is known then and isn't hidden, which someone holds, with its record, and which isn't
 -- held yet.
-abbrev pub comes_to : World → Member → Part → Bool
-comes_to w m t =
+abbrev pub is_gained : World → Member → Part → Bool
+is_gained w m t =
     nat_le t.seq (slice_index (settled_vector w) t.publisher)
-    && (not (member_hides m (pair_of t))
+    && (not (has_deleted m (pair_of t))
     && (someone_holds w.members t && (someone_holds w.members (record_of t) && not (member_holds m t))))
 
 -- The parts that come to a member in a settle, in order.
 abbrev pub new_parts : World → Member → List Part
-new_parts w m = filter (comes_to w m) (all_parts (logs w))
+new_parts w m = filter (is_gained w m) (all_parts (logs w))
 
 -- How many parts come to all members.
-abbrev pub settle_gains : World → ℕ
-settle_gains w = sum_by (λ m. length (new_parts w m)) w.members
+abbrev pub settle_new_parts : World → ℕ
+settle_new_parts w = sum_by (λ m. length (new_parts w m)) w.members
 
 -- What it makes of a member, but for its machine: the member knows what all know, its claims end, and the new parts
 -- come.
@@ -139,7 +139,7 @@ syncs_of j (m ∷ ms) = record { sender = j; vector = m.known } ∷ syncs_of (j 
 
 -- The parts that a fetch tries: the first 4,096 that are wanted and not claimed.
 abbrev pub planned_parts : World → ℕ → List Part
-planned_parts w j = take 4096 (open_at w j)
+planned_parts w j = take 4096 (unclaimed_at w j)
 
 -- The members, with an empty one in the place of the asking member.
 abbrev pub others_of : World → ℕ → List Member
@@ -147,27 +147,27 @@ others_of w j = slice_set w.members j no_member
 
 -- The first of so many attempts that the network passes, where another member holds the part.
 abbrev pub attempt : Environment → World → (j tries loss : ℕ) → Part → Option ℕ
-attempt out w j tries loss t =
+attempt env w j tries loss t =
     if someone_holds (others_of w j) t
-    then find (λ a. out.passes j t (tries_of (member w j).attempts t + a) loss) (numbers_from 1 tries)
+    then find (λ a. env.passes j t (tries_of (member w j).attempts t + a) loss) (numbers_from 1 tries)
     else None
 
 -- The parts that a fetch brings, in order.
 abbrev pub fetched_parts : Environment → World → (j tries loss : ℕ) → List Part
-fetched_parts out w j tries loss = filter (λ t. is_some (attempt out w j tries loss t)) (planned_parts w j)
+fetched_parts env w j tries loss = filter (λ t. is_some (attempt env w j tries loss t)) (planned_parts w j)
 
 -- How many attempts a part takes.
 abbrev pub attempts_for : Environment → World → (j tries loss : ℕ) → Part → ℕ
-attempts_for out w j tries loss t = unwrap_or (attempt out w j tries loss t) tries
+attempts_for env w j tries loss t = unwrap_or (attempt env w j tries loss t) tries
 
 -- How many attempts it makes.
 abbrev pub attempts_made : Environment → World → (j tries loss : ℕ) → ℕ
-attempts_made out w j tries loss = sum_by (attempts_for out w j tries loss) (planned_parts w j)
+attempts_made env w j tries loss = sum_by (attempts_for env w j tries loss) (planned_parts w j)
 
 -- What it makes of the member: those parts are held, and the attempts of each are counted.
 abbrev pub fetches : Environment → World → (j tries loss : ℕ) → Member → Member
-fetches out w j tries loss m = record (gains (fetched_parts out w j tries loss) m) {
-  attempts = with_each_tried (attempts_for out w j tries loss) (planned_parts w j) m.attempts;
+fetches env w j tries loss m = record (gains (fetched_parts env w j tries loss) m) {
+  attempts = with_each_tried (attempts_for env w j tries loss) (planned_parts w j) m.attempts;
 }
 
 -- ---- commands
@@ -182,7 +182,7 @@ after_command w j (Insert name first last) =
     if can_start (member w j) then with_member w j (member_starts name first last (member w j)) else w
 after_command w j (Check process) = w
 after_command w j (Delete name) =
-    with_member w j (member_hides_all (catalogued_under (logs w) (member w j) name) (member w j))
+    with_member w j (deletes_all (catalogued_under (logs w) (member w j) name) (member w j))
 
 -- How many packets a deletion drops.
 abbrev pub packets_dropped : World → ℕ → Command → ℕ
@@ -203,7 +203,7 @@ command_answer w j (Delete name) =
     if length (catalogued_under (logs w) (member w j) name) == 0 then code_only 404
     else record (code_only 200) { deleted = Some (packets_dropped w j (Delete name)) }
 
--- What octets make of the group that are read as a command, or refused.
+-- The world after octets that were read as a command, or refused.
 abbrev pub after_order : World → ℕ → Result (ℕ × Command) ℕ → World
 after_order w j (Ok order) = after_command w j order.1
 after_order w j (Err code) = w
@@ -231,10 +231,10 @@ with_process_at w j number p = with_member w j (member_with_process number p (me
 
 -- ---- draws
 
-module _ (out : Environment) where
+module _ (env : Environment) where
   -- The next draw of a member.
   abbrev pub drawn : World → ℕ → ℕ
-  drawn w j = out.draw j (member w j).machine.draws
+  drawn w j = env.draw j (member w j).machine.draws
 
   -- A member publishes under its next number, and sends its sync Interest.
   abbrev pub after_publish : World → ℕ → Post → World
@@ -249,14 +249,14 @@ module _ (out : Environment) where
 
   -- A member hears a vector.
   abbrev pub after_deliver : World → ℕ → List ℕ → World
-  after_deliver w j reported = record (with_member w j (learns (drawn w j) w.time reported (member w j))) {
+  after_deliver w j received = record (with_member w j (learns (drawn w j) w.time received (member w j))) {
     tally = record w.tally { delivered = w.tally.delivered + 1 };
   }
 
   -- Octets that are refused, or that tell too much, change nothing.
   abbrev pub after_hear : World → ℕ → Option SyncInterest → World
   after_hear w j None = w
-  after_hear w j (Some sync) = if reports_too_much w j sync then w else after_deliver w j sync.vector
+  after_hear w j (Some sync) = if exceeds_log w j sync then w else after_deliver w j sync.vector
 
   -- A member's machine is Steady again.
   abbrev pub after_reset : World → ℕ → World
@@ -279,15 +279,15 @@ module _ (out : Environment) where
     sent = w.sent ++ syncs_of 0 w.members;
     tally = record w.tally {
       delivered = w.tally.delivered + length w.members * (length w.members - 1);
-      parts = w.tally.parts + settle_gains w;
-      octets = w.tally.octets + sum_by (λ m. sum_by (out.size (logs w)) (new_parts w m)) w.members;
+      parts = w.tally.parts + settle_new_parts w;
+      octets = w.tally.octets + sum_by (λ m. sum_by (env.size (logs w)) (new_parts w m)) w.members;
     };
   }
 
   -- The machines of the members from a member on are reset, each with its next draw.
   abbrev pub reset_each : (time j : ℕ) → List Member → List Member
   reset_each time j [] = []
-  reset_each time j (m ∷ ms) = resets (out.draw j m.machine.draws) time m ∷ reset_each time (j + 1) ms
+  reset_each time j (m ∷ ms) = resets (env.draw j m.machine.draws) time m ∷ reset_each time (j + 1) ms
 
   -- All machines are reset.
   abbrev pub after_resets : World → World
@@ -299,11 +299,11 @@ module _ (out : Environment) where
 
   -- A fetch.
   abbrev pub after_fetch : World → (j tries loss : ℕ) → World
-  after_fetch w j tries loss = record (with_member w j (fetches out w j tries loss (member w j))) {
+  after_fetch w j tries loss = record (with_member w j (fetches env w j tries loss (member w j))) {
     tally = record w.tally {
-      attempts = w.tally.attempts + attempts_made out w j tries loss;
-      parts = w.tally.parts + length (fetched_parts out w j tries loss);
-      octets = w.tally.octets + sum_by (out.size (logs w)) (fetched_parts out w j tries loss);
+      attempts = w.tally.attempts + attempts_made env w j tries loss;
+      parts = w.tally.parts + length (fetched_parts env w j tries loss);
+      octets = w.tally.octets + sum_by (env.size (logs w)) (fetched_parts env w j tries loss);
     };
   }
 
@@ -323,13 +323,14 @@ module _ (out : Environment) where
   after_event w (Event.Claim j f) = after_claiming w j f (to_claim w j)
   after_event w (Event.Lose j f) = with_member w j (member_with_claim f None (member w j))
   after_event w (Event.Answer j f q) =
-      after_came out (tried_once w) j f (claim_at w j f) (came_from out w q (claim_at w j f))
+      after_response env (tried_once w) j f (claim_at w j f) (response_from env w q (claim_at w j f))
   after_event w (Event.Fetch j tries loss) = after_fetch w j tries loss
   after_event w Event.Settle = after_settle w
   after_event w (Event.Dump j t) = w
   after_event w (Event.Hear j read) = after_hear w j read
   after_event w (Event.Ask j find) = w
-  after_event w (Event.Feed j f read) = after_came out w j f (claim_at w j f) (came_as w read (claim_at w j f))
+  after_event w (Event.Feed j f read) =
+      after_response env w j f (claim_at w j f) (response_read w read (claim_at w j f))
   after_event w (Event.Order j read) = after_order w j read
   after_event w (Event.Issue j client command) = after_issue w j client command
   after_event w (Event.Block j process index content) = after_block w j process (block_at w j process index content)
@@ -347,7 +348,7 @@ module _ (out : Environment) where
 abbrev pub mode_at : World → ℕ → Mode
 mode_at w j = mode_of (member w j).machine.heard
 
--- What a catalogue comes to.
+-- The totals of a catalogue.
 abbrev pub catalogue_totals : List Entry → CatalogueTotals
 catalogue_totals entries = record {
   entries = length entries;
@@ -363,48 +364,48 @@ next_seq_at w j = length (member w j).log + 1
 abbrev pub next_sync : World → ℕ
 next_sync w = length w.sent + 1
 
--- What each member's catalogue comes to.
+-- The totals of each member's catalogue.
 abbrev pub all_totals : World → List CatalogueTotals
 all_totals w = map (λ j. catalogue_totals (catalogue_at w j)) (numbers_from 0 (length w.members))
 
--- What is reported of octets that are read as a sync Interest.
+-- The outcome of octets that are read as a sync Interest.
 abbrev pub hear_outcome : Environment → World → ℕ → (read : Option SyncInterest) → HearOutcome read
-hear_outcome out w j None = tt
-hear_outcome out w j (Some sync) =
-    if reports_too_much w j sync then Err (length (member w j).log, slice_index sync.vector j)
-    else Ok (mode_at (after_deliver out w j sync.vector) j)
+hear_outcome env w j None = tt
+hear_outcome env w j (Some sync) =
+    if exceeds_log w j sync then Err (length (member w j).log, slice_index sync.vector j)
+    else Ok (mode_at (after_deliver env w j sync.vector) j)
 
--- What is reported of an event.
+-- The outcome of an event.
 abbrev pub outcome : Environment → World → (e : Event) → OutcomeOf e
-outcome out w (Event.Publish j o) =
+outcome env w (Event.Publish j o) =
     record { seq = next_seq_at w j; segments = length o.contents; sync = next_sync w }
-outcome out w (Event.Withdraw j seq) = record { seq = next_seq_at w j; sync = next_sync w }
-outcome out w (Event.Deliver k j) = mode_at (after_deliver out w j (sent_at w k).vector) j
-outcome out w (Event.Sync k) = sent_at w k
-outcome out w (Event.Advance ms) = w.time + ms
-outcome out w (Event.Fire j) = record { timer = timer_at w j; sync = next_sync w }
-outcome out w (Event.Restart j) = tt
-outcome out w (Event.Vector j) = (member w j).known
-outcome out w (Event.Catalogue j) = catalogue_at w j
-outcome out w (Event.Claim j f) = to_claim w j
-outcome out w (Event.Lose j f) = claim_at w j f
-outcome out w (Event.Answer j f q) = passes_checks (came_from out w q (claim_at w j f))
-outcome out w (Event.Fetch j tries loss) = record {
+outcome env w (Event.Withdraw j seq) = record { seq = next_seq_at w j; sync = next_sync w }
+outcome env w (Event.Deliver k j) = mode_at (after_deliver env w j (sent_at w k).vector) j
+outcome env w (Event.Sync k) = sent_at w k
+outcome env w (Event.Advance ms) = w.time + ms
+outcome env w (Event.Fire j) = record { timer = timer_at w j; sync = next_sync w }
+outcome env w (Event.Restart j) = tt
+outcome env w (Event.Vector j) = (member w j).known
+outcome env w (Event.Catalogue j) = catalogue_at w j
+outcome env w (Event.Claim j f) = to_claim w j
+outcome env w (Event.Lose j f) = claim_at w j f
+outcome env w (Event.Answer j f q) = passes_checks (response_from env w q (claim_at w j f))
+outcome env w (Event.Fetch j tries loss) = record {
   planned = length (planned_parts w j);
-  kept = length (fetched_parts out w j tries loss);
-  attempts = attempts_made out w j tries loss;
+  kept = length (fetched_parts env w j tries loss);
+  attempts = attempts_made env w j tries loss;
 }
-outcome out w Event.Settle = record { syncs = length w.members; kept = settle_gains w }
-outcome out w (Event.Dump j t) = member_holds (member w j) t
-outcome out w (Event.Hear j read) = hear_outcome out w j read
-outcome out w (Event.Ask j find) = find (logs w) (member w j).held
-outcome out w (Event.Feed j f read) = passes_checks (came_as w read (claim_at w j f))
-outcome out w (Event.Order j read) = order_answer w j read
-outcome out w (Event.Issue j client command) = command_answer w j command
-outcome out w (Event.Block j process index content) =
+outcome env w Event.Settle = record { syncs = length w.members; kept = settle_new_parts w }
+outcome env w (Event.Dump j t) = member_holds (member w j) t
+outcome env w (Event.Hear j read) = hear_outcome env w j read
+outcome env w (Event.Ask j find) = find (logs w) (member w j).held
+outcome env w (Event.Feed j f read) = passes_checks (response_read w read (claim_at w j f))
+outcome env w (Event.Order j read) = order_answer w j read
+outcome env w (Event.Issue j client command) = command_answer w j command
+outcome env w (Event.Block j process index content) =
     record { state = block_at w j process index content; seq = next_seq_at w j; sync = next_sync w }
-outcome out w Event.Summary = all_totals w
-outcome out w Event.Traffic = record {
+outcome env w Event.Summary = all_totals w
+outcome env w Event.Traffic = record {
   syncs = length w.sent;
   delivered = w.tally.delivered;
   attempts = w.tally.attempts;
@@ -414,9 +415,9 @@ outcome out w Event.Traffic = record {
 
 -- The reply to an event.
 abbrev pub reply_to : Environment → World → Event → Reply
-reply_to out w e = reply_of e (outcome out w e)
+reply_to env w e = reply_of e (outcome env w e)
 
 -- The replies to a list of events, in order.
 abbrev pub replies : Environment → World → List Event → List Reply
-replies out w [] = []
-replies out w (e ∷ es) = reply_to out w e ∷ replies out (after_event out w e) es
+replies env w [] = []
+replies env w (e ∷ es) = reply_to env w e ∷ replies env (after_event env w e) es

@@ -6,7 +6,7 @@ use Rattle.sorted_lists.specs.SortedList.{contains}
 use Rattle.repo_plan.specs.Parts.{part_cmp, pair_of, record_of, parent}
 use Rattle.repo_plan.specs.Plan.{is_wanted, is_claimed, wanted}
 use Rattle.group_model.specs.Publications.{Logs, count, shape_at}
-use Rattle.group_model.specs.Member.{Member, member_holds, member_hides, plan_of}
+use Rattle.group_model.specs.Member.{Member, member_holds, has_deleted, plan_of}
 use Rattle.group_model.specs.World.{Environment, World, member, logs}
 use Rattle.group_model.specs.Steps.{to_claim}
 use Rattle.group_model.specs.Sound.{IsKnown}
@@ -23,7 +23,7 @@ pub record IsWantedPart (logs : Logs) (m : Member) (t : Part) : Type 0 where
   pub known : IsKnown m.known (pair_of t)
   pub part : (t.part ≡ 0) ⊎ IsListedByHeld logs m t
   pub not_held : member_holds m t ≡ false
-  pub not_hidden : member_hides m (pair_of t) ≡ false
+  pub not_hidden : has_deleted m (pair_of t) ≡ false
 
 -- Of what the member holds any part of, it holds the record.
 abbrev pub HoldsRecords : Member → Type 0
@@ -31,7 +31,7 @@ HoldsRecords m = (t : Part) → member_holds m t ≡ true → member_holds m (re
 
 -- So does every member of the group.
 abbrev pub AllHoldRecords : Environment → World → Type 0
-AllHoldRecords out w = (j : ℕ) → j < length w.members → HoldsRecords (member w j)
+AllHoldRecords env w = (j : ℕ) → j < length w.members → HoldsRecords (member w j)
 
 -- The wanted parts are those.
 abbrev pub WantsThose : Type 0

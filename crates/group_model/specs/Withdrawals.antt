@@ -4,7 +4,7 @@ use Rattle.repo_plan.specs.Parts.{Pair}
 use Rattle.repo_object.specs.Objects.{offered, withdraws_number}
 use Rattle.group_model.specs.Publications.{Logs, post_at}
 use Rattle.group_model.specs.Events.{Event}
-use Rattle.group_model.specs.World.{Environment, World, logs, opening_world}
+use Rattle.group_model.specs.World.{Environment, World, logs, initial_world}
 use Rattle.group_model.specs.Steps.{after_event}
 use Rattle.group_model.specs.Sound.{IsPublished}
 use Rattle.group_model.specs.Refusals.{EventIsTaken}
@@ -25,9 +25,9 @@ AllWithdrawRightly logs = (pair : Pair) (seq : ℕ) → IsPublished logs pair
 
 -- So it is in a group in which nothing has happened, and it stays so after any event that is taken.
 abbrev pub BeginsRightly : Type 0
-BeginsRightly = (out : Environment) (n : ℕ) → AllWithdrawRightly (logs (opening_world out n))
+BeginsRightly = (env : Environment) (n : ℕ) → AllWithdrawRightly (logs (initial_world env n))
 
 -- An event that is taken withdraws rightly.
 abbrev pub StaysRightly : Environment → World → Type 0
-StaysRightly out w = (e : Event) → EventIsTaken out w e → AllWithdrawRightly (logs w)
-    → AllWithdrawRightly (logs (after_event out w e))
+StaysRightly env w = (e : Event) → EventIsTaken env w e → AllWithdrawRightly (logs w)
+    → AllWithdrawRightly (logs (after_event env w e))

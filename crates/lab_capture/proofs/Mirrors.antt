@@ -18,7 +18,7 @@ use Rattle.group_model.proofs.Members.{known_published}
 use Rattle.group_model.proofs.PublicLaws.{all_parts_rise, parts_are_those}
 use Rattle.repo_member.specs.InGroup.{published_packet}
 use Rattle.repo_member.proofs.PublicLaws.{contains-value}
-use Rattle.repo_mirror.specs.Asked.{is_kept}
+use Rattle.repo_mirror.specs.Asked.{is_for}
 use Rattle.repo_mirror.specs.Mirrors.{mirror_holds}
 use Rattle.repo_mirror.specs.MirrorState.{MirrorState, fetch_plan}
 use Rattle.repo_mirror.specs.ConsistentMirrors.{IsConsistentMirror, mirror_in_group}
@@ -44,18 +44,18 @@ module _ (s : GroupState) (is : IsConsistentState s) (i : ℕ) (there : i < leng
   stores_is : (t : Part) → stores (world_of s) (mirror_as m) t ≡ contains part_cmp (keys m.store) t
   stores_is t = elim (cases_Bool (contains part_cmp (keys m.store) t)) [
     | inl kept ↦
-        and_from (mirror_holds (mirror_in_group m) t) (is_kept m.pattern (logs (world_of s)) (pair_of t))
+        and_from (mirror_holds (mirror_in_group m) t) (is_for m.pattern (logs (world_of s)) (pair_of t))
         (or_left (contains part_cmp (keys m.store) t)
         (t.part == 0 && contains pair_cmp m.passed (pair_of t)) kept)
         (consistent.sound.kept t kept).accepted ∙ sym kept
     | inr other ↦ elim (cases_Bool (t.part == 0 && contains pair_cmp m.passed (pair_of t))) [
       | inl passed ↦
           let pair = (and_parts (t.part == 0) (contains pair_cmp m.passed (pair_of t)) passed).1 in
-          and_right (mirror_holds (mirror_in_group m) t) (is_kept m.pattern (logs (world_of s)) (pair_of t))
+          and_right (mirror_holds (mirror_in_group m) t) (is_for m.pattern (logs (world_of s)) (pair_of t))
           (consistent.sound.passed (pair_of t) pair).not_accepted ∙ sym other
       | inr never ↦
           let none : mirror_holds (mirror_in_group m) t ≡ false = rw (other, never) refl in
-          let kept = is_kept m.pattern (logs (world_of s)) (pair_of t) in
+          let kept = is_for m.pattern (logs (world_of s)) (pair_of t) in
           let not_stored : stores (world_of s) (mirror_as m) t ≡ false = ap (λ (b : Bool). b && kept) none in
           not_stored ∙ sym other
     ]

@@ -12,7 +12,7 @@ use Rattle.script_lang.proofs.Conditions.{and_left, and_right, weaker}
 use Rattle.script_report.specs.Texts.{after_spaces, command_text, line}
 use Rattle.lab_text.specs.LineTexts.{without_feed}
 use Rattle.lab_text.proofs.Feeds.{feed_gone}
-use Rattle.lab_capture.specs.Answers.{AreOneAtMost, answer_in, answer_reported, is_one_word, most_code, most_number}
+use Rattle.lab_capture.specs.Answers.{AreOneAtMost, answer_in, answer_report, is_one_word, most_code, most_number}
 use Rattle.lab_capture.specs.Answers.{report_words}
 
 -- ---- the words of a line
@@ -81,7 +81,7 @@ module _ (verb label : List ℕ) (code : ℕ) (v : is_one_word verb ≡ true) (l
   with_code words = label ∷ decimal code ∷ words
 
   said : (words : List (List ℕ)) → are_words words ≡ true
-      → answer_reported (line verb (with_code words)) ≡ answer_in (verb ∷ with_code words)
+      → answer_report (line verb (with_code words)) ≡ answer_in (verb ∷ with_code words)
   said words k = ap answer_in (words_are verb (with_code words) v
       (and_from (is_one_word label) _ l (and_from (is_one_word (decimal code)) _ (number_word code code_small) k)))
 
@@ -91,7 +91,7 @@ module _ (verb label : List ℕ) (code : ℕ) (v : is_one_word verb ≡ true) (l
       and_from (is_one_word word) _ w (and_from (is_one_word (decimal n)) true (number_word n small) refl)
 
   pub answer_read : (process inserted deleted : Option ℕ) → AreOneAtMost process inserted deleted
-      → answer_reported (command_text verb label code process inserted deleted)
+      → answer_report (command_text verb label code process inserted deleted)
       ≡ Some (record { code = code; process = process; inserted = inserted; deleted = deleted })
   answer_read None None None h = said [] refl ∙ rw code_is refl
   answer_read None None (Some n) h =

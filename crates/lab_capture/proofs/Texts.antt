@@ -13,7 +13,7 @@ use Rattle.group_model.specs.World.{World}
 use Rattle.repo_member.specs.Groups.{GroupKeys}
 use Rattle.script_lang.specs.Forms.{Stated}
 use Rattle.script_lang.specs.Checking.{Declared}
-use Rattle.script_story.specs.Judging.{State}
+use Rattle.script_story.specs.Evaluation.{State}
 use Rattle.script_story.specs.Mirrors.{Mirroring}
 use Rattle.lab_capture.specs.Frames.{mirror_parts}
 use Rattle.lab_capture.specs.declared.station.Station.{Station}

@@ -11,7 +11,7 @@ use Rattle.std.proofs.lemmas.Simd.{map-map}
 use Rattle.std.proofs.lemmas.Option.{slice_get-get_or, slice_get_past}
 use Rattle.sorted_lists.specs.SortedList.{Rises, contains, keys, value_of}
 use Rattle.repo_plan.specs.declared.part.Part.{Part}
-use Rattle.repo_plan.specs.Parts.{pair_of, part_cmp, parts_after}
+use Rattle.repo_plan.specs.Parts.{pair_of, part_cmp, last_part}
 use Rattle.repo_plan.specs.Plan.{claim_of, holds, is_after, is_claimed, is_unclaimed, is_wanted, known_parts, unclaimed}
 use Rattle.repo_plan.proofs.Scans.{after_none}
 use Rattle.repo_object.specs.Wants.{WantedPart}
@@ -65,7 +65,7 @@ same_filtered test f g same (suc n) (t ∷ ts) =
       go false e fewer all = all
 
 -- the parts of a publication are fewer than numbers of parts
-pub few_parts : (post : Post) (seq x : ℕ) → IsPost seq post → x ≤ parts_after (shape_in post) → x < 65535
+pub few_parts : (post : Post) (seq x : ℕ) → IsPost seq post → x ≤ last_part (shape_in post) → x < 65535
 few_parts (Offers object) seq x is counted =
     omega (arith, counted, is.few, index_few (length object.contents) is.few)
 few_parts (Withdraws withdrawn) seq x is counted = omega (arith, counted)

@@ -42,8 +42,8 @@ answer_in (verb ∷ label ∷ code ∷ word ∷ number ∷ []) =
 answer_in words = None
 
 -- The answer that a report says, if it says one.
-abbrev pub answer_reported : List ℕ → Option Answer
-answer_reported report = answer_in (report_words report)
+abbrev pub answer_report : List ℕ → Option Answer
+answer_report report = answer_in (report_words report)
 
 -- ---- printed answers
 

@@ -1,6 +1,6 @@
 -- The capture of a script: the frames of its lines, in order.
 use Rattle.std.specs.Prelude.{ℕ, Bool, true, false, List, [], ◌++◌, Option, Some, None, if◌then◌else◌}
-use Rattle.script_story.specs.Judging.{RunEnvironment, State}
+use Rattle.script_story.specs.Evaluation.{RunEnvironment, State}
 use Rattle.lab_text.specs.Outcomes.{Outcome}
 use Rattle.lab_lines.specs.Folding.{FormOf, form_outcome}
 use Rattle.lab_lines.specs.Transcript.{status_at}

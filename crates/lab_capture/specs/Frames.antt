@@ -29,9 +29,9 @@ use Rattle.script_lang.specs.Kinds.{Value, Number, Octets, Text}
 use Rattle.script_lang.specs.Forms.{Stated}
 use Rattle.script_lang.specs.Lines.{line_of}
 use Rattle.script_lang.specs.Checking.{Declared, mirror_place, party_place}
-use Rattle.script_story.specs.Judging.{State}
+use Rattle.script_story.specs.Evaluation.{State}
 use Rattle.script_story.specs.Mirrors.{Mirroring, mirror_of}
-use Rattle.repo_mirror.specs.Asked.{is_kept}
+use Rattle.repo_mirror.specs.Asked.{is_for}
 use Rattle.group_model.specs.Publications.{all_parts}
 use Rattle.repo_plan.specs.Parts.{pair_of}
 use Rattle.lab_text.specs.Transcripts.{shown_line}
@@ -146,7 +146,7 @@ holders_before w (Some s) = holders_of w s.verb
 
 -- A mirror stores the packet of this part: it holds it, and didn't pass it over.
 abbrev pub stores : World → Mirroring → Part → Bool
-stores w m t = m.holds t && is_kept m.pattern (logs w) (pair_of t)
+stores w m t = m.holds t && is_for m.pattern (logs w) (pair_of t)
 
 -- The parts whose packets it stores, in order.
 abbrev pub stored_by : World → Mirroring → List Part

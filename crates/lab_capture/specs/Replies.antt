@@ -13,10 +13,10 @@ use Rattle.script_lang.specs.declared.verb.Verb.TheVariants as verb
 use Rattle.script_lang.specs.Kinds.{Value, Named, Number, Octets, Text}
 use Rattle.script_lang.specs.Forms.{Stated}
 use Rattle.script_lang.specs.Checking.{Declared, party_place}
-use Rattle.script_story.specs.Judging.{State}
+use Rattle.script_story.specs.Evaluation.{State}
 use Rattle.lab_capture.specs.declared.station.Station.{Station}
 use Rattle.lab_capture.specs.declared.station.Station.TheVariants as station
-use Rattle.lab_capture.specs.Answers.{answer_reported}
+use Rattle.lab_capture.specs.Answers.{answer_report}
 use Rattle.lab_capture.specs.Captures.{Framed}
 use Rattle.lab_capture.specs.Frames.{below, member_named, sent_if, sent_now, stated_in}
 
@@ -65,7 +65,7 @@ replies_of d g w _ values answer = []
 -- The same of a line that states something or nothing, and has this report.
 abbrev pub replies : Declared → GroupKeys → World → Option Stated → List ℕ → List Framed
 replies d g w None report = []
-replies d g w (Some s) report = replies_of d g w s.verb s.values (answer_reported report)
+replies d g w (Some s) report = replies_of d g w s.verb s.values (answer_report report)
 
 -- The same, after which the world is this.
 abbrev pub replies_in : State → List ℕ → List ℕ → Option World → List Framed

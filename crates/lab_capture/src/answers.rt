@@ -3,15 +3,15 @@ ghost use Rattle.std.specs.Prelude.{◌≡◌, ◌≤◌, map, IfOk, IfSome};
 ghost use Rattle.std.specs.List.{list_all};
 ghost use Rattle.std.specs.Char.{is_ascii_digit};
 ghost use Rattle.ndn_name.specs.UriText.{decimal_of_text, is_decimal};
-ghost use Rattle.lab_capture.specs.Answers.{answer_field, answer_in, answer_reported, answer_with, report_words};
+ghost use Rattle.lab_capture.specs.Answers.{answer_field, answer_in, answer_report, answer_with, report_words};
 
 use lab_text::without_feed;
 use repo_command::Answer;
 use std::alloc::{AllocError, Global};
 
 // The answer that a report says, if it says one.
-pub(crate) fn answer_reported(alloc: Global, report: &[u8]) -> Result<Option<Answer>, AllocError>
-    ensures { IfOk result (λ answer. answer ≡ answer_reported report.now) }
+pub(crate) fn answer_report(alloc: Global, report: &[u8]) -> Result<Option<Answer>, AllocError>
+    ensures { IfOk result (λ answer. answer ≡ answer_report report.now) }
 {
     let words = report_words(alloc, report)?;
     Ok(answer_in(&words))

@@ -70,8 +70,8 @@ pub(crate) fn member_at(world: &World, m: u32) -> Station
     ensures member { result ≡ Member m }
     ensures station { IsStation result }
 {
-    world.is_sound();
-    world.group().is_sound();
+    world.cite_soundness();
+    world.group().cite_soundness();
     Station::Member(m as u8)
 }
 
@@ -81,7 +81,7 @@ pub(crate) fn mirror_at(world: &World, i: u32) -> Station
     ensures mirror { result ≡ Mirror i }
     ensures station { IsStation result }
 {
-    world.is_sound();
+    world.cite_soundness();
     Station::Mirror(i as u8)
 }
 
@@ -102,7 +102,7 @@ fn sender_at(world: &World, k: u32) -> Option<Station>
     ensures sender { result ≡ option_map (λ m. Member m) (sender_at (world_of world.now) k) }
     ensures station { IfSome result IsStation }
 {
-    world.is_sound();
+    world.cite_soundness();
     match world.sender(k) {
         Some(m) => Some(Station::Member(m as u8)),
         None => None,
@@ -114,7 +114,7 @@ fn put_new_syncs(out: &mut Vec<u8>, world: &World, sent: u32) -> Result<(), Allo
     ensures { OnOk result (out.new.items ≡ out.old.items
         ++ frames_text (new_syncs world.now.keys (world_of world.now) sent)) }
 {
-    world.is_sound();
+    world.cite_soundness();
     let last = world.tally().syncs as u32;
     for i in 0..last.saturating_sub(sent) {
         put_sync(out, world, Station::AllMembers, sent + 1 + i)?;
@@ -159,7 +159,7 @@ pub(crate) fn packet_of(world: &World, m: u32, part: Part) -> Option<&[u8]>
     ensures { option_map (λ p. p.now) result
         ≡ packet_of world.now.keys (world_of world.now) m part }
 {
-    world.is_sound();
+    world.cite_soundness();
     world.member(m).packet(part)
 }
 
@@ -242,7 +242,7 @@ fn served_by<'w>(world: &'w World, m: u32, octets: &[u8]) -> Option<&'w [u8]>
     ensures { option_map (λ p. p.now) result
         ≡ served_by world.now.keys (world_of world.now) m octets.now }
 {
-    world.is_sound();
+    world.cite_soundness();
     match world.member(m).serve(octets) {
         Ok(packet) => packet,
         Err(_) => None,

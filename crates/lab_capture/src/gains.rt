@@ -50,7 +50,7 @@ fn put_all_new(out: &mut Vec<u8>, world: &World, m: u32, held: &HeldParts) -> Re
         ++ frames_text (flat_map (new_part world.now.keys (world_of world.now) m held.now)
         (member (world_of world.now) m).held)) }
 {
-    world.is_sound();
+    world.cite_soundness();
     let mut last = None;
     while let Some(part) = next_held(world.member(m), last) {
         put_new_part(out, world, m, held, part)?;

@@ -118,7 +118,7 @@ fn all_holders(alloc: Global, world: &World) -> Result<Vec<Holding>, AllocError>
     ensures { IfOk result (λ holders. map holder_of holders.items
         ≡ map (holder_in (world_of world.now)) (numbers_from 0 (length world.now.members))) }
 {
-    world.is_sound();
+    world.cite_soundness();
     let mut holders = Vec::new(alloc);
     for member in 0..world.members() as u32 {
         holders.push(holder_in(alloc, world, member)?)?;
@@ -131,7 +131,7 @@ fn holder_in(alloc: Global, world: &World, member: u32) -> Result<Holding, Alloc
     requires { member < length world.now.members }
     ensures { IfOk result (λ holder. holder_of holder ≡ holder_in (world_of world.now) member) }
 {
-    world.is_sound();
+    world.cite_soundness();
     let held = HeldParts::of(alloc, world.member(member))?;
     Ok(Holding { member, held })
 }

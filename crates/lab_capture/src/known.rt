@@ -74,7 +74,7 @@ pub(crate) fn known_before(
 {
     match script.world() {
         Some(world) => {
-            world.is_sound();
+            world.cite_soundness();
             let stated = read(alloc, line)?;
             let holders = holders_before(alloc, world, &stated)?;
             let mirrors = mirrors_before(alloc, script.words(), world, &stated)?;
@@ -204,7 +204,7 @@ fn claim_with(
     ensures { IfOk result (λ claim. option_map claimed claim
         ≡ claim_with world.now.keys (world_of world.now) asker asked (claim_at (world_of world.now) asker f)) }
 {
-    world.is_sound();
+    world.cite_soundness();
     match world.member(asker).want(alloc, world.group(), f) {
         Ok(want) => Ok(Some(Claim {
             asker,
@@ -269,6 +269,6 @@ fn planned(alloc: Global, world: &World, m: u32) -> Result<Vec<Job>, AllocError>
     ensures { IfOk result (λ jobs. map asked_by jobs.items
         ≡ map (asked_for world.now.keys (world_of world.now)) (planned_parts (world_of world.now) m)) }
 {
-    world.is_sound();
+    world.cite_soundness();
     world.member(m).plan(alloc, world.group(), None, MOST_JOBS)
 }

@@ -86,7 +86,7 @@ fn mirror_in(alloc: Global, world: &World, mirror: u32) -> Result<Holding, Alloc
     ensures { IfOk result (λ holder. holder_of holder
         ≡ mirror_in (world_of world.now) (map mirror_as world.now.mirrors) mirror) }
 {
-    world.is_sound();
+    world.cite_soundness();
     let held = HeldParts::of(alloc, world.mirror(mirror))?;
     Ok(Holding {
         member: mirror,
@@ -136,7 +136,7 @@ fn put_all_stored(
         (mirror_of (map mirror_as world.now.mirrors) i) i held.now)
         (stored_by (world_of world.now) (mirror_of (map mirror_as world.now.mirrors) i)))) }
 {
-    world.is_sound();
+    world.cite_soundness();
     let mut last = None;
     while let Some(part) = next_held(world.mirror(i), last) {
         put_stored(out, world, i, held, part)?;
@@ -173,6 +173,6 @@ fn mirror_packet(world: &World, i: u32, part: Part) -> Option<&[u8]>
     ensures { option_map (λ p. p.now) result ≡ mirror_packet world.now.keys (world_of world.now)
         (mirror_of (map mirror_as world.now.mirrors) i) part }
 {
-    world.is_sound();
+    world.cite_soundness();
     world.mirror(i).packet(part)
 }

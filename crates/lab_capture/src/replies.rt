@@ -6,13 +6,13 @@ ghost use Rattle.repo_command.specs.Commands.{named_length};
 ghost use Rattle.repo_member.specs.Commanded.{order_made};
 ghost use Rattle.bench_world.specs.Worlds.{world_of};
 ghost use Rattle.lab_capture.specs.declared.station.Station.TheVariants.{Client};
-ghost use Rattle.lab_capture.specs.Answers.{answer_reported};
+ghost use Rattle.lab_capture.specs.Answers.{answer_report};
 ghost use Rattle.lab_capture.specs.Captures.{IsStation};
 ghost use Rattle.lab_capture.specs.Frames.{below, frames_text, member_named};
 ghost use Rattle.lab_capture.specs.Replies.{client_named, commanded, exchanged, is_short, ordered, replies};
 ghost use Rattle.lab_capture.specs.Replies.{replies_of, reply_of};
 
-use crate::answers::answer_reported;
+use crate::answers::answer_report;
 use crate::frames::{member_at, put_if, put_sent};
 use crate::known::{below, member_named};
 use crate::station::Station;
@@ -50,7 +50,7 @@ fn put_replies_of(
 ) -> Result<(), AllocError>
     ensures { OnOk result (out.new.items ≡ out.old.items
         ++ frames_text (replies_of words.now world.now.keys (world_of world.now) (stated line.now).verb
-        (stated line.now).values (answer_reported report.now))) }
+        (stated line.now).values (answer_report report.now))) }
 {
     match line {
         Line::Order { m, octets } => {
@@ -96,7 +96,7 @@ fn put_ordered(
 ) -> Result<(), AllocError>
     requires { IfSome m (λ m. m < length world.now.members) }
     ensures { OnOk result (out.new.items ≡ out.old.items
-        ++ frames_text (ordered world.now.keys (world_of world.now) m octets.now (answer_reported report.now))) }
+        ++ frames_text (ordered world.now.keys (world_of world.now) m octets.now (answer_report report.now))) }
 {
     match m {
         Some(m) => put_exchanged(out, world, Station::Outside, m, octets, report),
@@ -117,7 +117,7 @@ fn put_commanded(
     ensures { OnOk result (out.new.items ≡ out.old.items
         ++ frames_text (commanded world.now.keys (world_of world.now)
         (member_named words.now (world_of world.now) m.now)
-        (client_named words.now world.now.keys client.now) command.now (answer_reported report.now))) }
+        (client_named words.now world.now.keys client.now) command.now (answer_report report.now))) }
 {
     match (
         member_named(words, world, m),
@@ -143,9 +143,9 @@ fn put_made(
     requires short { named_length command.now ≤ OBJECT_NAME_LIMIT }
     ensures { OnOk result (out.new.items ≡ out.old.items
         ++ frames_text (exchanged world.now.keys (world_of world.now) (Client client) m
-        (order_made world.now.keys m client command.now) (answer_reported report.now))) }
+        (order_made world.now.keys m client command.now) (answer_report report.now))) }
 {
-    world.is_sound();
+    world.cite_soundness();
     let octets = made(*out.allocator(), world.group(), m, client, command)?;
     put_exchanged(out, world, client_at(world, client), m, &octets, report)
 }
@@ -163,10 +163,10 @@ fn put_exchanged(
     requires there { m < length world.now.members }
     ensures { OnOk result (out.new.items ≡ out.old.items
         ++ frames_text (exchanged world.now.keys (world_of world.now) client m octets.now
-        (answer_reported report.now))) }
+        (answer_report report.now))) }
 {
     let member = member_at(world, m);
-    let answer = answer_reported(*out.allocator(), report)?;
+    let answer = answer_report(*out.allocator(), report)?;
     let reply = reply_of(world, m, octets, answer)?;
     put_sent(out, world, client, member, octets)?;
     put_if(out, world, member, client, reply.as_deref())
@@ -183,7 +183,7 @@ fn reply_of(
     ensures { IfOk result (λ reply. option_map (λ r. r.items) reply
         ≡ reply_of world.now.keys m octets.now answer) }
 {
-    world.is_sound();
+    world.cite_soundness();
     match answer {
         Some(answer) => world.member(m).reply(world.group(), octets, &answer),
         None => Ok(None),
@@ -203,7 +203,7 @@ fn made(
     requires short { named_length command.now ≤ OBJECT_NAME_LIMIT }
     ensures { IfOk result (λ octets. octets.items ≡ order_made g.now m client command.now) }
 {
-    g.is_sound();
+    g.cite_soundness();
     let key_name = key_name(g.client_names().name(client))?;
     let key = g.clients().key(client);
     make_command(alloc, g.roster().name(m), command, &key_name, key)
@@ -223,7 +223,7 @@ fn client_at(world: &World, client: u32) -> Station
     ensures client { result ≡ Client client }
     ensures station { IsStation result }
 {
-    world.group().is_sound();
+    world.group().cite_soundness();
     Station::Client(client as u8)
 }
 

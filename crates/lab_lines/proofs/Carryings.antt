@@ -16,7 +16,7 @@ use Rattle.repo_io.specs.Outside.{GainsText, GainsPrefix}
 use Rattle.repo_io.proofs.LineLaws.{open_line, whole_first}
 use Rattle.repo_io.proofs.Outputs.{prefix_after, prefix_longer, nothing_gained}
 use Rattle.script_story.specs.declared.ending.Ending.{Ending}
-use Rattle.script_story.specs.Judging.{RunEnvironment}
+use Rattle.script_story.specs.Evaluation.{RunEnvironment}
 use Rattle.script_lines.specs.Reading.{HasLine, LineIsBegun}
 use Rattle.lab_text.specs.declared.status.LabStatus.{LabStatus}
 use Rattle.lab_text.specs.declared.status.LabStatus.TheVariants.{ReadFault, WriteFault}
@@ -26,7 +26,8 @@ use Rattle.lab_lines.specs.Carrying.{Carried, Ends, EndsAfter, Fails, Halts, IsF
 use Rattle.lab_lines.specs.Carrying.{after_stop_at, ran}
 use Rattle.lab_lines.specs.Folding.{FormOf, Passed, Ran, form_outcome, nothing_passed, outcome_of, ran_from, ran_over}
 use Rattle.lab_lines.specs.Folding.{with_text}
-use Rattle.lab_lines.specs.Written.{IsTakenNear, Known, WritesLines, can_be_judged, end_of_lines, lines_so_far, taken}
+use Rattle.lab_lines.specs.Written.{IsTakenNear, Known, WritesLines, can_be_evaluated, end_of_lines, lines_so_far}
+use Rattle.lab_lines.specs.Written.{taken}
 use Rattle.lab_lines.proofs.Ends.{ends_after, ends_short, ends_so_far, failing_no_end, known_map}
 use Rattle.lab_lines.proofs.Folds.{no_lines}
 use Rattle.lab_lines.proofs.LongLines.{whole_judged}
@@ -51,15 +52,15 @@ failing_lines f env m a b status input rest read no_end = record {
 }
 
 -- a line that is only begun can't be judged yet
-begun_judged : (held : List ℕ) → LineIsBegun held → filter can_be_judged (lines held) ≡ []
+begun_judged : (held : List ℕ) → LineIsBegun held → filter can_be_evaluated (lines held) ≡ []
 unfolding lines
 begun_judged [] begun = refl
 begun_judged (octet ∷ octets) begun =
     let one : lines (octet ∷ octets) ≡ (octet ∷ octets) ∷ [] = open_line (octet ∷ octets) (λ e. cc) begun.free in
-    let not_yet : can_be_judged (octet ∷ octets) ≡ false =
+    let not_yet : can_be_evaluated (octet ∷ octets) ≡ false =
     or_from (has_feed (octet ∷ octets)) (ltb 32768 (length (octet ∷ octets))) begun.free
     (le-ltb 32768 (length (octet ∷ octets)) begun.short) in
-    ap (filter can_be_judged) one ∙ rw not_yet refl
+    ap (filter can_be_evaluated) one ∙ rw not_yet refl
 
 -- nothing was passed yet
 pub nothing_carried : {M : Type 0} (f : FormOf M) (env : RunEnvironment) (m : M) (p : Passed) (held : List ℕ)
@@ -72,7 +73,7 @@ nothing_carried {M} f env m p held a input none begun = record {
   cut = λ more. refl;
   joined = refl;
   count = ap (λ (x : Passed). x.lines) begun;
-  judged = refl;
+  evaluated = refl;
   goes = λ others. ap (λ (x : Passed). ran_from f env x m others) (sym begun);
   gained = nothing_gained a;
 }
@@ -90,7 +91,7 @@ module _ {M : Type 0} (f : FormOf M) (env : RunEnvironment) (begun : M) (held : 
     cut = so_far.cut;
     joined = so_far.joined;
     count = so_far.count;
-    judged = so_far.judged;
+    evaluated = so_far.evaluated;
     goes = so_far.goes;
     gained = so_far.gained;
   }
@@ -103,10 +104,10 @@ module _ {M : Type 0} (f : FormOf M) (env : RunEnvironment) (begun : M) (held : 
 
   -- the lines so far, where so much was taken after those that were passed
   so_far_is : (more now : List ℕ) → input ≡ (so_far.octets ++ more) ++ now
-      → lines_so_far (taken input now) ≡ so_far.done ++ filter can_be_judged (lines more)
+      → lines_so_far (taken input now) ≡ so_far.done ++ filter can_be_evaluated (lines more)
   so_far_is more now parts = rw (taken_is input (so_far.octets ++ more) now parts)
-      (ap (filter can_be_judged) (so_far.cut more) ∙ filter-append can_be_judged so_far.done (lines more)
-      ∙ ap (λ (t : List (List ℕ)). t ++ filter can_be_judged (lines more)) so_far.judged)
+      (ap (filter can_be_evaluated) (so_far.cut more) ∙ filter-append can_be_evaluated so_far.done (lines more)
+      ∙ ap (λ (t : List (List ℕ)). t ++ filter can_be_evaluated (lines more)) so_far.evaluated)
 
   octets_within : (n : ℕ) → p.lines ≤ n → length so_far.octets ≤ end_of_lines n input
   octets_within n le =
@@ -151,8 +152,8 @@ module _ {M : Type 0} (f : FormOf M) (env : RunEnvironment) (begun : M) (held : 
           joined = concat-append so_far.done (line ∷ []) ∙ ap (λ (t : List ℕ). t ++ (line ++ [])) so_far.joined
               ∙ ap (λ (t : List ℕ). so_far.octets ++ t) (append-nil line);
           count = omega (arith, passes.count, so_far.count, length-append so_far.done (line ∷ []));
-          judged = filter-append can_be_judged so_far.done (line ∷ [])
-              ∙ rw (so_far.judged, whole_judged line whole) refl;
+          evaluated = filter-append can_be_evaluated so_far.done (line ∷ [])
+              ∙ rw (so_far.evaluated, whole_judged line whole) refl;
           goes = λ others. ap (ran_over f env begun) (append_assoc so_far.done (line ∷ []) others)
               ∙ so_far.goes (line ∷ others) ∙ ap (with_text so_far.text) (passes.goes others)
               ∙ with_with so_far.text passes.text (ran_from f env q n others);
@@ -186,7 +187,7 @@ module _ {M : Type 0} (f : FormOf M) (env : RunEnvironment) (begun : M) (held : 
           bounded = λ end. absurd end;
         };
       } where
-        none_judged : filter can_be_judged (lines held) ≡ []
+        none_judged : filter can_be_evaluated (lines held) ≡ []
         none_judged = begun_judged held begun_line
 
         exact : GainsText a b (ran_over f env begun (lines_so_far (taken input rest))).text
@@ -258,7 +259,7 @@ module _ {M : Type 0} (f : FormOf M) (env : RunEnvironment) (begun : M) (held : 
               let ls = so_far_is (line ++ octets) now parts_now in
               let text : (ran_over f env begun (lines_so_far (taken input now))).text ≡ so_far.text ++ halts.text =
               ap (λ (t : List (List ℕ)). (ran_over f env begun t).text) ls
-              ∙ ap (λ (r : Ran M). r.text) (so_far.goes (filter can_be_judged (lines (line ++ octets))))
+              ∙ ap (λ (r : Ran M). r.text) (so_far.goes (filter can_be_evaluated (lines (line ++ octets))))
               ∙ ap (λ (t : List ℕ). so_far.text ++ t)
               (halts_text f env p m line ending totals n b d halts kind octets) in
               let all : GainsText a e ((so_far.text ++ halts.text) ++ []) =

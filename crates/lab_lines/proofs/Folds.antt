@@ -8,8 +8,8 @@ use Rattle.script_report.specs.declared.refusal.Refusal.TheVariants.{Limit}
 use Rattle.script_report.specs.Refusals.{refusal_number}
 use Rattle.script_story.specs.declared.ending.Ending.{Ending}
 use Rattle.script_story.specs.declared.ending.Ending.TheVariants as an_ending
-use Rattle.script_story.specs.Judging.{RunEnvironment, State, Verdict, foreign, refused, says}
-use Rattle.script_story.specs.Story.{Reached, judged_next, reached_after}
+use Rattle.script_story.specs.Evaluation.{RunEnvironment, State, Verdict, foreign, refused, accepted}
+use Rattle.script_story.specs.ScriptRun.{Reached, evaluated_next, reached_after}
 use Rattle.script_lines.specs.declared.error.LineError.{LineError}
 use Rattle.script_lines.specs.declared.error.LineError.TheVariants as error
 use Rattle.script_lines.specs.RunStates.{IsLineError}
@@ -72,9 +72,9 @@ module _ {M : Type 0} (f : FormOf M) (env : RunEnvironment) (p : Passed) (m : M)
     pub noted_line : fits p.lines p.octets line ≡ true → is_note line ≡ true → next_line env p line ≡ noted
     noted_line fit note = rw (fit, note) refl
 
-    pub judged_line : fits p.lines p.octets line ≡ true → is_note line ≡ false
-        → next_line env p line ≡ scripted (judged_next env p.reached line)
-    judged_line fit note = rw (fit, note) refl
+    pub evaluated_line : fits p.lines p.octets line ≡ true → is_note line ≡ false
+        → next_line env p line ≡ scripted (evaluated_next env p.reached line)
+    evaluated_line fit note = rw (fit, note) refl
 
     pub line_beyond : fits p.lines p.octets line ≡ false → next_line env p line ≡ scripted (refused Limit)
     line_beyond fit = rw fit refl
@@ -97,7 +97,7 @@ module _ {M : Type 0} (f : FormOf M) (env : RunEnvironment) (p : Passed) (m : M)
     abbrev k : M
     k = looked f p m line
 
-    module _ (report : List ℕ) (next : State) (e : next_line env p line ≡ scripted (says report next)) where
+    module _ (report : List ℕ) (next : State) (e : next_line env p line ≡ scripted (accepted report next)) where
       pub passes_taken : (q : Passed) (n : M) (a b : Option (List ℕ)) → q ≡ after_line p line report next
           → n ≡ f.line k (taken_line p line report next) → GainsText a b (f.text k (taken_line p line report next))
           → Passes f env p m line q n a b
@@ -108,7 +108,7 @@ module _ {M : Type 0} (f : FormOf M) (env : RunEnvironment) (p : Passed) (m : M)
             let by_passed : Passed → Ran M = λ x.
             with_text text (ran_from f env x (f.line k (taken_line p line report next)) others) in
             let by_form : M → Ran M = λ x. with_text text (ran_from f env q x others) in
-            by_next (scripted (says report next)) e others ∙ ap by_passed (sym passed) ∙ ap by_form (sym kept);
+            by_next (scripted (accepted report next)) e others ∙ ap by_passed (sym passed) ∙ ap by_form (sym kept);
         count = ap (λ (x : Passed). x.lines) passed;
         gained = gained;
       }
@@ -123,7 +123,7 @@ module _ {M : Type 0} (f : FormOf M) (env : RunEnvironment) (p : Passed) (m : M)
             let after = ran_from f env (after_line p line report next) (f.line k (taken_line p line report next))
             others in
             let is : (ran_from f env p m (line ∷ others)).text ≡ text ++ after.text =
-            ap (λ (x : Ran M). x.text) (by_next (scripted (says report next)) e others) in
+            ap (λ (x : Ran M). x.text) (by_next (scripted (accepted report next)) e others) in
             let P : List ℕ → Type 0 = λ t. GainsPrefix a b t (status ≡ WriteFault) in
             subst P (sym is) (prefix_longer a b text after.text short.prefix);
       }
@@ -223,10 +223,10 @@ module _ {M : Type 0} (f : FormOf M) (env : RunEnvironment) (p : Passed) (m : M)
     -- ---- what is reported of it
 
     module _ (fit : fits p.lines p.octets line ≡ true) (other : is_note line ≡ false) (report : List ℕ) (next : State)
-        (taken : judged_next env p.reached line ≡ says report next) (number : ℕ)
+        (taken : evaluated_next env p.reached line ≡ accepted report next) (number : ℕ)
         (same : number ≡ p.reached.lines + 1) where
-      stated : next_line env p line ≡ scripted (says report next)
-      stated = judged_line fit other ∙ ap (λ (v : Verdict). scripted v) taken
+      stated : next_line env p line ≡ scripted (accepted report next)
+      stated = evaluated_line fit other ∙ ap (λ (v : Verdict). scripted v) taken
 
       at_is : lined number (shown_text line) report (Some next) ≡ taken_line p line report next
       at_is = ap (λ (i : ℕ). lined i (shown_text line) report (Some next)) same

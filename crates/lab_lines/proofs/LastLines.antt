@@ -7,7 +7,7 @@ use Rattle.repo_io.proofs.LineLaws.{open_line}
 use Rattle.repo_io.proofs.Outputs.{prefix_longer}
 use Rattle.script_story.specs.declared.ending.Ending.{Ending}
 use Rattle.script_story.specs.declared.ending.Ending.TheVariants as an_ending
-use Rattle.script_story.specs.Judging.{RunEnvironment}
+use Rattle.script_story.specs.Evaluation.{RunEnvironment}
 use Rattle.script_lines.specs.Reading.{LineIsBegun}
 use Rattle.lab_text.specs.declared.status.LabStatus.{LabStatus}
 use Rattle.lab_lines.specs.declared.totals.Totals.{Totals}

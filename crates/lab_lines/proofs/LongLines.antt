@@ -17,7 +17,7 @@ use Rattle.lab_text.specs.LineTexts.{without_feed}
 use Rattle.lab_text.specs.Transcripts.{shown_text}
 use Rattle.lab_lines.specs.Carrying.{after_feed, through_feed}
 use Rattle.lab_lines.specs.Folding.{fits}
-use Rattle.lab_lines.specs.Written.{can_be_judged}
+use Rattle.lab_lines.specs.Written.{can_be_evaluated}
 
 -- ---- up to a line feed
 
@@ -148,11 +148,11 @@ module _ (prefix : List ℕ) (long : IsTooLong prefix) where
       ∙ sym (ap (take 32769) (rw (not_ended prefix long.free) refl))
 
   -- and judged
-  pub long_judged : (more : List ℕ) → can_be_judged (prefix ++ more) ≡ true
+  pub long_judged : (more : List ℕ) → can_be_evaluated (prefix ++ more) ≡ true
   long_judged more = or_right (has_feed (prefix ++ more)) (ltb 32768 (length (prefix ++ more)))
       (lt-ltb 32768 (length (prefix ++ more)) (omega (arith, length-append prefix more, long.long)))
 
-pub whole_judged : (line : List ℕ) → IsWhole line → can_be_judged line ≡ true
+pub whole_judged : (line : List ℕ) → IsWhole line → can_be_evaluated line ≡ true
 whole_judged line w = or_left (has_feed line) (ltb 32768 (length line))
     (ap has_feed w.is ∙ list_any-append (λ octet. eqb octet 10) w.prefix (10 ∷ [])
     ∙ or_right (has_feed w.prefix) true refl)

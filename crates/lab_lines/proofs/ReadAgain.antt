@@ -15,8 +15,8 @@ use Rattle.script_report.specs.Texts.{foreign_text}
 use Rattle.script_report.specs.declared.refusal.Refusal.TheVariants.{Limit}
 use Rattle.script_story.specs.declared.ending.Ending.{Ending}
 use Rattle.script_story.specs.declared.ending.Ending.TheVariants as an_ending
-use Rattle.script_story.specs.Judging.{RunEnvironment, State, Verdict, foreign, refused, says, unjudged}
-use Rattle.script_story.specs.Story.{Reached, judged_next, reached_after}
+use Rattle.script_story.specs.Evaluation.{RunEnvironment, State, Verdict, foreign, refused, accepted, not_evaluated}
+use Rattle.script_story.specs.ScriptRun.{Reached, evaluated_next, reached_after}
 use Rattle.lab_text.specs.LineTexts.{is_one_line, line_texts, without_feed}
 use Rattle.lab_text.specs.Notes.{is_note}
 use Rattle.lab_text.specs.Transcripts.{line_with_report, report_note, shown_line, shown_text}
@@ -31,7 +31,7 @@ use Rattle.lab_lines.specs.Folding.{stopping_line, stops, taken_line, with_text}
 use Rattle.lab_lines.specs.Transcript.{transcript_form}
 use Rattle.lab_lines.specs.Laws.{notes_fit}
 use Rattle.lab_lines.proofs.LongLines.{not_ended}
-use Rattle.lab_lines.proofs.Folds.{by_next, judged_line, line_beyond, noted_line}
+use Rattle.lab_lines.proofs.Folds.{by_next, evaluated_line, line_beyond, noted_line}
 
 -- ---- what fits
 
@@ -225,9 +225,9 @@ module _ (line : List ℕ) (w : IsWhole line) where
         let here : fits q.lines q.octets line ≡ true =
         short_fits q.lines q.octets line more
         (subst (λ (l : List ℕ). Room q.lines q.octets (l ∷ more)) is again) short in
-        ap (next_line env q) is ∙ judged_line {M = Unit {0}} transcript_form env q (tt {0}) line here other
-        ∙ ap (λ (r : Reached). scripted (judged_next env r line)) same
-        ∙ sym (judged_line {M = Unit {0}} transcript_form env p (tt {0}) line fit other) ∙ e
+        ap (next_line env q) is ∙ evaluated_line {M = Unit {0}} transcript_form env q (tt {0}) line here other
+        ∙ ap (λ (r : Reached). scripted (evaluated_next env r line)) same
+        ∙ sym (evaluated_line {M = Unit {0}} transcript_form env p (tt {0}) line fit other) ∙ e
 
     judged_again : (verdict : Verdict) → next_line env p line ≡ scripted verdict
         → next_line env q (shown_again_line line) ≡ scripted verdict
@@ -247,12 +247,12 @@ module _ (line : List ℕ) (w : IsWhole line) where
     ]
 
     -- a line that is taken is shown as it stands
-    taken_same : (report : List ℕ) (next : State) → next_line env p line ≡ scripted (says report next)
+    taken_same : (report : List ℕ) (next : State) → next_line env p line ≡ scripted (accepted report next)
         → shown_again_line line ≡ line
     taken_same report next e = elim (cases_Bool (fits p.lines p.octets line)) [
       | inl fit ↦ short_again (fits_short p.lines p.octets line fit)
       | inr beyond ↦
-          let h : scripted (says report next) ≡ scripted (refused Limit) =
+          let h : scripted (accepted report next) ≡ scripted (refused Limit) =
           sym e ∙ line_beyond {M = Unit {0}} transcript_form env p (tt {0}) line beyond in
           absurd cc
     ]
@@ -318,7 +318,7 @@ module _ (env : RunEnvironment) {M : Type 0} (g : FormOf M) (kept : List ℕ →
           })
 
     -- it is taken
-    module _ (report : List ℕ) (next : State) (e : next_line env p line ≡ scripted (says report next))
+    module _ (report : List ℕ) (next : State) (e : next_line env p line ≡ scripted (accepted report next))
         (rest : (x y : Passed) (k : M) → y.reached ≡ x.reached → Q k → Room x.lines x.octets ls
         → Room y.lines y.octets (lines (transcribed env x ls).text)
         → notes_fit (lines (transcribed env x ls).text) ≡ true
@@ -359,8 +359,8 @@ module _ (env : RunEnvironment) {M : Type 0} (g : FormOf M) (kept : List ℕ →
           let is : ran_from g env q n (lines (line_with_report (shown_text line) report ++ after_it.text))
           ≡ with_text (g.text k at) final =
           ap (ran_from g env q n) taken_lines
-          ∙ by_next g env q n shown (scripted (says report next))
-          (judged_again line w env p q same ls others room here (says report next) e) others
+          ∙ by_next g env q n shown (scripted (accepted report next))
+          (judged_again line w env p q same ls others room here (accepted report next) e) others
           ∙ ap (λ (x : Lined). with_text (g.text k x) (ran_from g env y (g.line k x) others)) at_is
           ∙ ap (with_text (g.text k at)) (notes_pass g env y (g.line k at) ts more y_room y_fit) in
           let P : Ran M → Type 0 = λ x.
@@ -396,8 +396,8 @@ module _ (env : RunEnvironment) {M : Type 0} (g : FormOf M) (kept : List ℕ →
             let is = by_next transcript_form env p (tt {0}) line noted e ls in
             subst (Again p q n same held line w ls room) (sym is)
             (rest (after_note p line) q n same held whole (room_more p.lines p.octets line ls room))
-        by_line rest (scripted (says report next)) e =
-            let is = by_next transcript_form env p (tt {0}) line (scripted (says report next)) e ls in
+        by_line rest (scripted (accepted report next)) e =
+            let is = by_next transcript_form env p (tt {0}) line (scripted (accepted report next)) e ls in
             subst (Again p q n same held line w ls room) (sym is)
             (taken_again p q n same held line w ls room report next e (λ x y k s h. rest x y k s h whole))
         by_line rest (scripted (refused why)) e =
@@ -411,8 +411,8 @@ module _ (env : RunEnvironment) {M : Type 0} (g : FormOf M) (kept : List ℕ →
             subst (Again p q n same held line w ls room) (sym is)
             (stop_again p q n same held line w ls room foreign e foreign_text (λ k. an_ending.Foreign k)
             (λ x y l others h. by_next g env x y l (scripted foreign) h others))
-        by_line rest (scripted unjudged) e =
-            let is = by_next transcript_form env p (tt {0}) line (scripted unjudged) e ls in
+        by_line rest (scripted not_evaluated) e =
+            let is = by_next transcript_form env p (tt {0}) line (scripted not_evaluated) e ls in
             subst (Again p q n same held line w ls room) (sym is)
-            (stop_again p q n same held line w ls room unjudged e (λ k. []) (λ k. an_ending.Refused k 0)
-            (λ x y l others h. by_next g env x y l (scripted unjudged) h others))
+            (stop_again p q n same held line w ls room not_evaluated e (λ k. []) (λ k. an_ending.Refused k 0)
+            (λ x y l others h. by_next g env x y l (scripted not_evaluated) h others))

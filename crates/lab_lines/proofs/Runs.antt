@@ -12,7 +12,7 @@ use Rattle.repo_io.proofs.LineLaws.{whole_first}
 use Rattle.script_report.specs.declared.refusal.Refusal.TheVariants.{Limit}
 use Rattle.script_story.specs.declared.ending.Ending.{Ending}
 use Rattle.script_story.specs.declared.ending.Ending.TheVariants as an_ending
-use Rattle.script_story.specs.Judging.{RunEnvironment, foreign, refused, says, unjudged}
+use Rattle.script_story.specs.Evaluation.{RunEnvironment, foreign, refused, accepted, not_evaluated}
 use Rattle.script_lines.specs.declared.error.LineError.TheVariants as error
 use Rattle.script_lines.specs.LineErrors.{line_error_text}
 use Rattle.script_lines.specs.Reading.{HasLine, IsTooLong}
@@ -26,7 +26,7 @@ use Rattle.lab_lines.specs.Folding.{FormOf, Lined, NextLine, Passed, Ran, after_
 use Rattle.lab_lines.specs.Folding.{noted}
 use Rattle.lab_lines.specs.Folding.{after_line, after_note, after_notes, looked}
 use Rattle.lab_lines.specs.Folding.{ran_from, scripted, taken_line, with_text}
-use Rattle.lab_lines.specs.Written.{can_be_judged}
+use Rattle.lab_lines.specs.Written.{can_be_evaluated}
 use Rattle.lab_lines.proofs.Folds.{StopsSo, by_next, line_beyond, no_lines, stops_so}
 use Rattle.lab_lines.proofs.LongLines.{first_of, long_beyond, long_judged, long_shown, long_some, not_ended}
 use Rattle.lab_lines.proofs.LongLines.{whole_ended}
@@ -49,8 +49,8 @@ lines_read {M} f env p m (line ∷ others) =
           → next_line env p line ≡ next → p.lines ≤ (ran_from f env p m (line ∷ others)).read
       by_line grows noted e = rw (by_next f env p m line noted e others)
           (omega (arith, grows (after_note p line) (f.note m line)))
-      by_line grows (scripted (says report next)) e =
-          rw (by_next f env p m line (scripted (says report next)) e others)
+      by_line grows (scripted (accepted report next)) e =
+          rw (by_next f env p m line (scripted (accepted report next)) e others)
           (omega (
             arith,
             grows (after_line p line report next)
@@ -60,8 +60,8 @@ lines_read {M} f env p m (line ∷ others) =
           rw (by_next f env p m line (scripted (refused why)) e others) (omega arith)
       by_line grows (scripted foreign) e =
           rw (by_next f env p m line (scripted foreign) e others) (omega arith)
-      by_line grows (scripted unjudged) e =
-          rw (by_next f env p m line (scripted unjudged) e others) (omega arith)
+      by_line grows (scripted not_evaluated) e =
+          rw (by_next f env p m line (scripted not_evaluated) e others) (omega arith)
 
 module _ {M : Type 0} (f : FormOf M) (env : RunEnvironment) (p : Passed) (m : M) where
   -- the script stops at a line that is too long
@@ -156,17 +156,17 @@ module _ {M : Type 0} (f : FormOf M) (env : RunEnvironment) (p : Passed) (m : M)
 
     -- what was written of it, where so much is taken of it
     pub halts_text : IsWhole line ⊎ IsTooLong line → (more : List ℕ)
-        → (ran_from f env p m (filter can_be_judged (lines (line ++ more)))).text ≡ halts.text
+        → (ran_from f env p m (filter can_be_evaluated (lines (line ++ more)))).text ≡ halts.text
     halts_text (inl whole) more =
-        let is : filter can_be_judged (lines (line ++ more)) ≡ line ∷ filter can_be_judged (lines more) =
-        ap (filter can_be_judged) (whole_first line more whole) ∙ rw (whole_judged line whole) refl in
+        let is : filter can_be_evaluated (lines (line ++ more)) ≡ line ∷ filter can_be_evaluated (lines more) =
+        ap (filter can_be_evaluated) (whole_first line more whole) ∙ rw (whole_judged line whole) refl in
         ap (λ (ls : List (List ℕ)). (ran_from f env p m ls).text) is
-        ∙ ap (λ (r : Ran M). r.text) (halts.goes (filter can_be_judged (lines more)))
+        ∙ ap (λ (r : Ran M). r.text) (halts.goes (filter can_be_evaluated (lines more)))
     halts_text (inr long) more =
         let tail = through_feed more in
-        let others = filter can_be_judged (lines (after_feed more)) in
-        let is : filter can_be_judged (lines (line ++ more)) ≡ (line ++ tail) ∷ others =
-        ap (filter can_be_judged) (first_of line more (long_some line long) long.free)
+        let others = filter can_be_evaluated (lines (after_feed more)) in
+        let is : filter can_be_evaluated (lines (line ++ more)) ≡ (line ++ tail) ∷ others =
+        ap (filter can_be_evaluated) (first_of line more (long_some line long) long.free)
         ∙ rw (long_judged line long tail) refl in
         ap (λ (ls : List (List ℕ)). (ran_from f env p m ls).text) is ∙ long_text line tail others long
         ∙ ap (λ (r : Ran M). r.text) (halts.goes [])

@@ -7,8 +7,8 @@ use Rattle.repo_io.specs.Lines.{has_feed, lines}
 use Rattle.script_report.specs.declared.refusal.Refusal.TheVariants.{Limit}
 use Rattle.script_story.specs.declared.ending.Ending.{Ending}
 use Rattle.script_story.specs.declared.ending.Ending.TheVariants as an_ending
-use Rattle.script_story.specs.Judging.{RunEnvironment, State, says, foreign, refused, unjudged}
-use Rattle.script_story.specs.Story.{judged_next}
+use Rattle.script_story.specs.Evaluation.{RunEnvironment, State, accepted, foreign, refused, not_evaluated}
+use Rattle.script_story.specs.ScriptRun.{evaluated_next}
 use Rattle.lab_text.specs.declared.status.LabStatus.TheVariants as status
 use Rattle.lab_text.specs.LineTexts.{are_one_line_each, is_one_line, without_feed}
 use Rattle.lab_text.specs.Notes.{is_note, without_notes}
@@ -19,7 +19,7 @@ use Rattle.lab_text.proofs.TranscriptLaws.{script_of_both}
 use Rattle.lab_lines.specs.Folding.{NextLine, Passed, Ran, after_line, after_note, fits, next_line, noted}
 use Rattle.lab_lines.specs.Folding.{nothing_passed, ran_from, ran_over, scripted}
 use Rattle.lab_lines.specs.Transcript.{status_at, transcript_form, transcript_of}
-use Rattle.lab_lines.proofs.Folds.{by_next, judged_line, line_beyond, no_lines, noted_line}
+use Rattle.lab_lines.proofs.Folds.{by_next, evaluated_line, line_beyond, no_lines, noted_line}
 use Rattle.lab_lines.proofs.LongLines.{not_ended}
 
 -- ---- a line that is shown
@@ -53,8 +53,8 @@ module _ (env : RunEnvironment) (p : Passed) (line : List ℕ) where
     | inl fit ↦ elim (cases_Bool (is_note line)) [
       | inl note ↦ note
       | inr other ↦
-          let h : scripted (judged_next env p.reached line) ≡ noted =
-          sym (judged_line {M = Unit {0}} transcript_form env p (tt {0}) line fit other) ∙ e in
+          let h : scripted (evaluated_next env p.reached line) ≡ noted =
+          sym (evaluated_line {M = Unit {0}} transcript_form env p (tt {0}) line fit other) ∙ e in
           absurd cc
     ]
     | inr beyond ↦
@@ -63,18 +63,18 @@ module _ (env : RunEnvironment) (p : Passed) (line : List ℕ) where
         absurd cc
   ]
 
-  is_taken : (report : List ℕ) (next : State) → next_line env p line ≡ scripted (says report next)
+  is_taken : (report : List ℕ) (next : State) → next_line env p line ≡ scripted (accepted report next)
       → is_note line ≡ false
   is_taken report next e = elim (cases_Bool (fits p.lines p.octets line)) [
     | inl fit ↦ elim (cases_Bool (is_note line)) [
       | inl note ↦
-          let h : noted ≡ scripted (says report next) =
+          let h : noted ≡ scripted (accepted report next) =
           sym (noted_line {M = Unit {0}} transcript_form env p (tt {0}) line fit note) ∙ e in
           absurd cc
       | inr other ↦ other
     ]
     | inr beyond ↦
-        let h : scripted (refused Limit) ≡ scripted (says report next) =
+        let h : scripted (refused Limit) ≡ scripted (accepted report next) =
         sym (line_beyond {M = Unit {0}} transcript_form env p (tt {0}) line beyond) ∙ e in
         absurd cc
   ]
@@ -106,8 +106,8 @@ kept_script env (line ∷ ls) p one done =
           ap script_of is
           ∙ others (after_note p line) (sym (ap (λ (x : Ran (Unit {0})). x.ending) is) ∙ done)
           ∙ sym (ap (map shown_line) rest)
-      go (scripted (says report next)) e single others =
-          let is = by_next {M = Unit {0}} transcript_form env p (tt {0}) line (scripted (says report next)) e ls in
+      go (scripted (accepted report next)) e single others =
+          let is = by_next {M = Unit {0}} transcript_form env p (tt {0}) line (scripted (accepted report next)) e ls in
           let after = ran_from transcript_form env (after_line p line report next) (tt {0}) ls in
           let plain = is_taken env p line report next e in
           let rest : without_notes (line ∷ ls) ≡ line ∷ without_notes ls = rw plain refl in
@@ -126,9 +126,9 @@ kept_script env (line ∷ ls) p one done =
           let h = sym (ap (λ (x : Ran (Unit {0})). x.ending)
           (by_next {M = Unit {0}} transcript_form env p (tt {0}) line (scripted foreign) e ls)) ∙ done in
           absurd cc
-      go (scripted unjudged) e single others =
+      go (scripted not_evaluated) e single others =
           let h = sym (ap (λ (x : Ran (Unit {0})). x.ending)
-          (by_next {M = Unit {0}} transcript_form env p (tt {0}) line (scripted unjudged) e ls)) ∙ done in
+          (by_next {M = Unit {0}} transcript_form env p (tt {0}) line (scripted not_evaluated) e ls)) ∙ done in
           absurd cc
 
 is_done : (e : Ending) → status_at e ≡ status.Done → e ≡ an_ending.Done

@@ -8,7 +8,7 @@ use Rattle.std.proofs.lemmas.List.{append-nil}
 use Rattle.repo_io.specs.Lines.{IsWhole, has_feed, lines}
 use Rattle.repo_io.proofs.LineLaws.{lines_joined}
 use Rattle.script_story.specs.declared.ending.Ending.{Ending}
-use Rattle.script_story.specs.Judging.{RunEnvironment}
+use Rattle.script_story.specs.Evaluation.{RunEnvironment}
 use Rattle.lab_text.specs.Cutting.{AreWholeLines}
 use Rattle.lab_text.specs.Differences.{after_common_prefix, are_same, sum_text}
 use Rattle.lab_text.specs.LineTexts.{are_one_line_each, line_texts}

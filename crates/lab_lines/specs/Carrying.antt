@@ -11,8 +11,8 @@ use Rattle.script_lang.specs.Lines.{ends_with}
 use Rattle.script_report.specs.Refusals.{refusal_number}
 use Rattle.script_story.specs.declared.ending.Ending.{Ending}
 use Rattle.script_story.specs.declared.ending.Ending.TheVariants as an_ending
-use Rattle.script_story.specs.Judging.{RunEnvironment}
-use Rattle.script_story.specs.Story.{Reached}
+use Rattle.script_story.specs.Evaluation.{RunEnvironment}
+use Rattle.script_story.specs.ScriptRun.{Reached}
 use Rattle.script_lines.specs.declared.error.LineError.{LineError}
 use Rattle.script_lines.specs.declared.error.LineError.TheVariants as error
 use Rattle.script_lines.specs.Reading.{IsTooLong, LineIsBegun}
@@ -28,7 +28,7 @@ use Rattle.lab_lines.specs.declared.over.Over.TheVariants.{Stopped, Faulted}
 use Rattle.lab_lines.specs.Folding.{FormOf, Lined, Passed, Ran, after_notes, after_stop, form_outcome, lined}
 use Rattle.lab_lines.specs.Folding.{most_octets}
 use Rattle.lab_lines.specs.Folding.{ran_from, ran_over, with_text}
-use Rattle.lab_lines.specs.Written.{WritesLines, can_be_judged}
+use Rattle.lab_lines.specs.Written.{WritesLines, can_be_evaluated}
 
 -- So many lines and octets were passed, and the script's lines among them came to this.
 abbrev pub passed : Totals → Reached → Passed
@@ -225,7 +225,7 @@ pub record Carried {M : Type 0} (f : FormOf M) (env : RunEnvironment) (begun : M
   pub cut : (more : List ℕ) → lines (octets ++ more) ≡ done ++ lines more
   pub joined : concat done ≡ octets
   pub count : p.lines ≡ length done
-  pub judged : filter can_be_judged done ≡ done
+  pub evaluated : filter can_be_evaluated done ≡ done
   pub goes : (others : List (List ℕ))
       → ran_over f env begun (done ++ others) ≡ with_text text (ran_from f env p m others)
   pub gained : GainsText old new text

@@ -1,7 +1,7 @@
 -- The check of a script with notes: each line's report against the notes right after it.
 use Rattle.std.specs.Prelude.{ℕ, Bool, true, List, [], ◌++◌, ◌==◌, if◌then◌else◌}
 use Rattle.repo_io.specs.InMemory.{one_more}
-use Rattle.script_story.specs.Judging.{RunEnvironment}
+use Rattle.script_story.specs.Evaluation.{RunEnvironment}
 use Rattle.lab_text.specs.declared.status.LabStatus.TheVariants.{Done, Differs}
 use Rattle.lab_text.specs.Differences.{are_same, line_difference_text, sum_text}
 use Rattle.lab_text.specs.LineTexts.{line_texts}

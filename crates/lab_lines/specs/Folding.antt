@@ -7,8 +7,8 @@ use Rattle.script_report.specs.Refusals.{refusal_number, refusal_text}
 use Rattle.script_report.specs.Texts.{foreign_text}
 use Rattle.script_story.specs.declared.ending.Ending.{Ending}
 use Rattle.script_story.specs.declared.ending.Ending.TheVariants as ending
-use Rattle.script_story.specs.Judging.{RunEnvironment, State, Verdict, says, foreign, refused, unjudged}
-use Rattle.script_story.specs.Story.{Reached, judged_next, nothing_reached, reached_after}
+use Rattle.script_story.specs.Evaluation.{RunEnvironment, State, Verdict, accepted, foreign, refused, not_evaluated}
+use Rattle.script_story.specs.ScriptRun.{Reached, evaluated_next, nothing_reached, reached_after}
 use Rattle.repo_io.specs.Lines.{lines}
 use Rattle.lab_text.specs.LineTexts.{without_feed}
 use Rattle.lab_text.specs.Notes.{is_note}
@@ -90,7 +90,7 @@ pub data NextLine : Type 0 where
 -- A line beyond the limits is refused, a note too.
 abbrev pub next_line : RunEnvironment → Passed → List ℕ → NextLine
 next_line env p line =
-    if fits p.lines p.octets line then (if is_note line then noted else scripted (judged_next env p.reached line))
+    if fits p.lines p.octets line then (if is_note line then noted else scripted (evaluated_next env p.reached line))
     else scripted (refused Limit)
 
 -- ---- a form over lines
@@ -140,7 +140,7 @@ stopping_line p line report = lined (p.reached.lines + 1) (shown_text line) repo
 -- refused under 0, which is the number of no refusal.
 abbrev pub ran_scripted : {M : Type 0} → FormOf M → (Passed → M → Ran M) → Passed → M → List ℕ → List (List ℕ) → Verdict
     → Ran M
-ran_scripted f go p m line others (says report next) =
+ran_scripted f go p m line others (accepted report next) =
     with_text (f.text m (taken_line p line report next))
     (go (after_line p line report next) (f.line m (taken_line p line report next)))
 ran_scripted f go p m line others (refused why) =
@@ -149,7 +149,7 @@ ran_scripted f go p m line others (refused why) =
 ran_scripted f go p m line others foreign =
     stops f p m line others (stopping_line p line (foreign_text (p.reached.lines + 1)))
     (ending.Foreign (p.reached.lines + 1))
-ran_scripted f go p m line others unjudged =
+ran_scripted f go p m line others not_evaluated =
     stops f p m line others (stopping_line p line []) (ending.Refused (p.reached.lines + 1) 0)
 
 -- What a form keeps before a line of the script.

@@ -2,7 +2,7 @@
 use Rattle.std.specs.Prelude.{◌≡◌, ◌≤◌, ◌||◌, ℕ, Bool, true, not, List, length, nat_le}
 use Rattle.std.specs.List.{list_all}
 use Rattle.script_lang.specs.Limits.{line_octets}
-use Rattle.script_story.specs.Judging.{RunEnvironment}
+use Rattle.script_story.specs.Evaluation.{RunEnvironment}
 use Rattle.repo_io.specs.Lines.{lines}
 use Rattle.lab_text.specs.declared.status.LabStatus.TheVariants.{Done}
 use Rattle.lab_text.specs.Cutting.{AreWholeLines}

@@ -2,7 +2,7 @@
 use Rattle.std.specs.Prelude.{ℕ, false, List, []}
 use Rattle.script_story.specs.declared.ending.Ending.{Ending}
 use Rattle.script_story.specs.declared.ending.Ending.TheVariants as ending
-use Rattle.script_story.specs.Judging.{RunEnvironment}
+use Rattle.script_story.specs.Evaluation.{RunEnvironment}
 use Rattle.lab_text.specs.declared.status.LabStatus.{LabStatus}
 use Rattle.lab_text.specs.declared.status.LabStatus.TheVariants.{Done, Refused, Foreign}
 use Rattle.lab_text.specs.Outcomes.{Outcome}

@@ -4,7 +4,7 @@ use Rattle.std.specs.Prelude.{nat_lt}
 use Rattle.std.specs.List.{concat, filter}
 use Rattle.script_lang.specs.Limits.{line_octets}
 use Rattle.script_story.specs.declared.ending.Ending.TheVariants as ending
-use Rattle.script_story.specs.Judging.{RunEnvironment}
+use Rattle.script_story.specs.Evaluation.{RunEnvironment}
 use Rattle.repo_io.specs.Lines.{has_feed, lines}
 use Rattle.repo_io.specs.Outside.{GainsText}
 use Rattle.lab_text.specs.declared.status.LabStatus.{LabStatus}
@@ -23,12 +23,12 @@ abbrev pub taken : List ℕ → List ℕ → List ℕ
 taken input rest = take (length input - length rest) input
 
 -- A line that can be judged: its line feed is there, or it is too long, whatever follows.
-abbrev pub can_be_judged : List ℕ → Bool
-can_be_judged line = has_feed line || nat_lt line_octets (length line)
+abbrev pub can_be_evaluated : List ℕ → Bool
+can_be_evaluated line = has_feed line || nat_lt line_octets (length line)
 
 -- The lines of the octets so far.
 abbrev pub lines_so_far : List ℕ → List (List ℕ)
-lines_so_far octets = filter can_be_judged (lines octets)
+lines_so_far octets = filter can_be_evaluated (lines octets)
 
 -- Where the last of so many lines ends, as a number of octets.
 abbrev pub end_of_lines : ℕ → List ℕ → ℕ

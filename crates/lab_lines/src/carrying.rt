@@ -1,6 +1,6 @@
 ghost use Rattle.std.specs.Prelude.{◌≡◌, ◌≤◌, ◌+◌, None, Err, length, IfErr, IfOk, OnOk, option_map};
 ghost use Rattle.repo_io.specs.Outside.{HasRisen};
-ghost use Rattle.script_story.specs.Judging.{env_by};
+ghost use Rattle.script_story.specs.Evaluation.{env_by};
 ghost use Rattle.script_lines.specs.Scripts.{IsScript, reached};
 ghost use Rattle.script_lines.specs.LineErrors.{line_error_text};
 ghost use Rattle.lab_text.specs.Transcripts.{shown_text};

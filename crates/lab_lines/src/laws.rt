@@ -1,6 +1,6 @@
 ghost use Rattle.std.specs.Prelude.{◌≡◌, ℕ, List, map};
 ghost use Rattle.repo_io.specs.Lines.{lines};
-ghost use Rattle.script_story.specs.Judging.{RunEnvironment};
+ghost use Rattle.script_story.specs.Evaluation.{RunEnvironment};
 ghost use Rattle.lab_text.specs.Notes.{without_notes};
 ghost use Rattle.lab_text.specs.Transcripts.{shown_line};
 ghost use Rattle.lab_lines.specs.Check.{check_of};

@@ -1,7 +1,7 @@
 ghost use Rattle.std.specs.Prelude.{◌≡◌, ◌≢◌};
 ghost use Rattle.std.specs.Option.{option_map};
 ghost use Rattle.repo_io.specs.Outside.{HasRisen};
-ghost use Rattle.script_story.specs.Judging.{env_by};
+ghost use Rattle.script_story.specs.Evaluation.{env_by};
 ghost use Rattle.lab_text.specs.Outcomes.{HasCause, WritesOutcome};
 ghost use Rattle.lab_lines.specs.Transcript.{transcript_form, transcript_of};
 ghost use Rattle.lab_lines.specs.Written.{Known, WritesLines};

@@ -4,7 +4,8 @@ use Rattle.std.proofs.lemmas.List.{append-nil}
 use Rattle.repo_io.specs.Lines.{lines}
 use Rattle.lab_lint.specs.Carrying.{PassesSo}
 use Rattle.lab_lint.specs.Findings.{finding_text, input_finding}
-use Rattle.lab_lint.specs.Linting.{Judged, Linted, Passed, after_note, fits, is_short_note, judged, lint_from, linted}
+use Rattle.lab_lint.specs.Linting.{Evaluated, Linted, Passed, after_note, fits, is_short_note, evaluated, lint_from}
+use Rattle.lab_lint.specs.Linting.{linted}
 use Rattle.lab_lint.specs.Linting.{linted_line, line_refused, line_taken, with_text}
 
 -- a text after another
@@ -31,7 +32,7 @@ unfolding lint_from
 note_passed old p line others within note = rw (within, note) refl
 
 -- a line of the script
-judged_passed : (old new : List ℕ) (p q : Passed) (line : List ℕ) (others : List (List ℕ)) (j : Judged)
+judged_passed : (old new : List ℕ) (p q : Passed) (line : List ℕ) (others : List (List ℕ)) (j : Evaluated)
     → PassesSo p line j q old new
     → with_text old (linted_line (λ next. lint_from next others) p line j) ≡ with_text new (lint_from q others)
 judged_passed old new p q line others (line_refused f) passes =
@@ -39,11 +40,11 @@ judged_passed old new p q line others (line_refused f) passes =
 judged_passed old new p q line others (line_taken d) passes = rw (passes.0, passes.1) refl
 
 pub line_passed : (old new : List ℕ) (p q : Passed) (line : List ℕ) (others : List (List ℕ)) → fits p line ≡ true
-    → is_short_note line ≡ false → PassesSo p line (judged p line) q old new
+    → is_short_note line ≡ false → PassesSo p line (evaluated p line) q old new
     → with_text old (lint_from p (line ∷ others)) ≡ with_text new (lint_from q others)
 unfolding lint_from
 line_passed old new p q line others within other passes =
-    rw (within, other) (judged_passed old new p q line others (judged p line) passes)
+    rw (within, other) (judged_passed old new p q line others (evaluated p line) passes)
 
 -- ---- the same of the octets that are left
 
@@ -61,7 +62,7 @@ note_so old p next line rest others cut within note same =
     rw (cut, same) (sym (note_passed old p line (lines others) within note))
 
 pub line_so : (old new : List ℕ) (p next : Passed) (line rest others : List ℕ) → lines rest ≡ line ∷ lines others
-    → fits p line ≡ true → is_short_note line ≡ false → PassesSo p line (judged p line) next old new
+    → fits p line ≡ true → is_short_note line ≡ false → PassesSo p line (evaluated p line) next old new
     → with_text new (lint_from next (lines others)) ≡ with_text old (lint_from p (lines rest))
 line_so old new p next line rest others cut within other passes =
     rw cut (sym (line_passed old new p next line (lines others) within other passes))

@@ -2,18 +2,18 @@
 use Rattle.std.specs.Prelude.{◌≡◌, ℕ, ◌+◌, Bool, true, false, List, ◌++◌}
 use Rattle.script_lang.specs.Checking.{Declared}
 use Rattle.lab_lint.specs.Findings.{finding_text}
-use Rattle.lab_lint.specs.Linting.{Judged, Passed, line_refused, line_taken, after_refused, after_taken}
+use Rattle.lab_lint.specs.Linting.{Evaluated, Passed, line_refused, line_taken, after_refused, after_taken}
 
 -- A line of this number is judged so: where it is refused, what is wrong with it is appended and nothing more is
 -- declared; else what is declared after it is kept.
-abbrev pub JudgesSo : ℕ → Declared → Judged → Bool → Declared → (old new : List ℕ) → Type 0
-JudgesSo number before (line_refused f) is_refused after old new =
+abbrev pub EvaluatesSo : ℕ → Declared → Evaluated → Bool → Declared → (old new : List ℕ) → Type 0
+EvaluatesSo number before (line_refused f) is_refused after old new =
     (is_refused ≡ true) × (after ≡ before) × (new ≡ old ++ finding_text number f)
-JudgesSo number before (line_taken d) is_refused after old new =
+EvaluatesSo number before (line_taken d) is_refused after old new =
     (is_refused ≡ false) × (after ≡ d) × (new ≡ old)
 
 -- A line that is judged so is passed.
-abbrev pub PassesSo : Passed → List ℕ → Judged → Passed → (old new : List ℕ) → Type 0
+abbrev pub PassesSo : Passed → List ℕ → Evaluated → Passed → (old new : List ℕ) → Type 0
 PassesSo p line (line_refused f) next old new =
     (next ≡ after_refused p line) × (new ≡ old ++ finding_text (p.number + 1) f)
 PassesSo p line (line_taken d) next old new = (next ≡ after_taken p line d) × (new ≡ old)

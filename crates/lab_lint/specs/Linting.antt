@@ -66,24 +66,24 @@ abbrev pub is_short_note : List ℕ → Bool
 is_short_note line = is_note line && nat_le (length (without_feed line)) line_octets
 
 -- A line of the script is refused for this, or so much is declared after it.
-pub data Judged : Type 0 where
-  line_refused : Finding → Judged
-  line_taken : Declared → Judged
+pub data Evaluated : Type 0 where
+  line_refused : Finding → Evaluated
+  line_taken : Declared → Evaluated
 
 -- A line that can be read is judged by what the lines before it declared.
-abbrev pub checked : Declared → Stated → List ℕ → Result Declared CheckFault → Judged
+abbrev pub checked : Declared → Stated → List ℕ → Result Declared CheckFault → Evaluated
 checked d s body (Ok after) = line_taken after
 checked d s body (Err fault) = line_refused (check_finding fault d s body)
 
 -- A line is judged by what it reads as.
-abbrev pub read : Declared → List ℕ → Result (Option Stated) LineFault → Judged
+abbrev pub read : Declared → List ℕ → Result (Option Stated) LineFault → Evaluated
 read d line (Ok None) = line_taken d
 read d line (Ok (Some s)) = checked d s (body_of line) (after_line d s)
 read d line (Err fault) = line_refused (line_finding fault line)
 
 -- A line is judged within the limits of a script.
-abbrev pub judged : Passed → List ℕ → Judged
-judged p line = if is_within_script p line then read p.declared line (line_of line) else line_refused script_finding
+abbrev pub evaluated : Passed → List ℕ → Evaluated
+evaluated p line = if is_within_script p line then read p.declared line (line_of line) else line_refused script_finding
 
 -- ---- all lines
 
@@ -102,7 +102,7 @@ abbrev pub with_text : List ℕ → Linted → Linted
 with_text text l = linted (text ++ l.text) l.number l.taken
 
 -- What is written of a line that is judged so, and of the lines after it.
-abbrev pub linted_line : (Passed → Linted) → Passed → List ℕ → Judged → Linted
+abbrev pub linted_line : (Passed → Linted) → Passed → List ℕ → Evaluated → Linted
 linted_line others p line (line_refused f) = with_text (finding_text (p.number + 1) f) (others (after_refused p line))
 linted_line others p line (line_taken d) = others (after_taken p line d)
 
@@ -116,7 +116,7 @@ lint_from p [] = linted [] p.number p.taken
 lint_from p (line ∷ others) =
     if fits p line
     then if is_short_note line then lint_from (after_note p line) others
-    else linted_line (λ next. lint_from next others) p line (judged p line)
+    else linted_line (λ next. lint_from next others) p line (evaluated p line)
     else beyond p
 
 -- ---- the outcome

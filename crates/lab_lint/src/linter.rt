@@ -2,10 +2,10 @@ ghost use Rattle.std.specs.Prelude.{◌≡◌, ◌≤◌, ◌+◌, ◌++◌, tru
 ghost use Rattle.script_lang.specs.Checking.{after_line};
 ghost use Rattle.script_lang.specs.Forms.{stated};
 ghost use Rattle.script_lang.specs.Lines.{line_of};
-ghost use Rattle.lab_lint.specs.Carrying.{JudgesSo, PassesSo};
+ghost use Rattle.lab_lint.specs.Carrying.{EvaluatesSo, PassesSo};
 ghost use Rattle.lab_lint.specs.Findings.{finding_text, input_finding};
 ghost use Rattle.lab_lint.specs.Linting.{after_note, after_refused, after_taken, checked, fits, is_within_script};
-ghost use Rattle.lab_lint.specs.Linting.{judged, nothing_passed, read};
+ghost use Rattle.lab_lint.specs.Linting.{evaluated, nothing_passed, read};
 
 use crate::columns::body_of;
 use crate::finding::{
@@ -93,7 +93,7 @@ impl Linter {
     // Passes a line of the script, and appends what is wrong with it where it is refused.
     pub(crate) fn pass_line(&mut self, line: &[u8], out: &mut Vec<u8>) -> Result<(), AllocError>
         requires { fits self.old line.now ≡ true }
-        ensures { OnOk result (PassesSo self.old line.now (judged self.old line.now) self.new
+        ensures { OnOk result (PassesSo self.old line.now (evaluated self.old line.now) self.new
             out.old.items out.new.items) }
     {
         if !self.is_within_script(line) {
@@ -101,7 +101,7 @@ impl Linter {
             self.pass_refused(line);
             return Ok(());
         }
-        if judge(self.alloc, &mut self.words, self.number + 1, line, out)? {
+        if evaluate(self.alloc, &mut self.words, self.number + 1, line, out)? {
             self.pass_refused(line);
         } else {
             self.pass_taken(line);
@@ -156,14 +156,14 @@ impl Linter {
 }
 
 // Whether a line of the script is refused. If so, what is wrong with it is appended; else what it declares is kept.
-fn judge(
+fn evaluate(
     alloc: Global,
     words: &mut Words,
     number: u32,
     line: &[u8],
     out: &mut Vec<u8>,
 ) -> Result<bool, AllocError>
-    ensures { IfOk result (λ refused. JudgesSo number words.old (read words.old line.now (line_of line.now)) refused
+    ensures { IfOk result (λ refused. EvaluatesSo number words.old (read words.old line.now (line_of line.now)) refused
         words.new out.old.items out.new.items) }
 {
     match read_line(alloc, line) {
@@ -189,7 +189,7 @@ fn check(
     body: &[u8],
     out: &mut Vec<u8>,
 ) -> Result<bool, AllocError>
-    ensures { IfOk result (λ refused. JudgesSo number words.old
+    ensures { IfOk result (λ refused. EvaluatesSo number words.old
         (checked words.old (stated line.now) body.now (after_line words.old (stated line.now))) refused words.new
         out.old.items out.new.items) }
 {

@@ -7,7 +7,7 @@ use Rattle.group_model.specs.World.{World}
 use Rattle.script_lang.specs.declared.verb.Verb.{Verb}
 use Rattle.script_lang.specs.declared.verb.Verb.TheVariants as verb
 use Rattle.script_lang.specs.Checking.{Declared}
-use Rattle.script_story.specs.Judging.{RunEnvironment, State, says, foreign, refused, unjudged}
+use Rattle.script_story.specs.Evaluation.{RunEnvironment, State, accepted, foreign, refused, not_evaluated}
 use Rattle.script_story.specs.Mirrors.{Mirroring}
 use Rattle.lab_lines.specs.Folding.{Lined, NextLine, Passed, after_line, after_note, next_line, nothing_passed}
 use Rattle.lab_lines.specs.Folding.{ran_from, ran_line, taken_line}
@@ -19,7 +19,7 @@ use Rattle.lab_picture.specs.Laws.IsMarkup.{nothing, joined}
 use Rattle.lab_picture.specs.Drawn.{Drawn, marks_of, most_rows, nothing_drawn, with_declared, with_event, with_marks}
 use Rattle.lab_picture.specs.Pictures.{draw_form, draw_of, with_state, with_world}
 use Rattle.lab_picture.specs.Sights.{column_label, columns_of, counts_of, member_column, mirror_column}
-use Rattle.lab_picture.specs.Sights.{command, fetch, publication, reported_verb, sender_column, sight, sight_of}
+use Rattle.lab_picture.specs.Sights.{command, fetch, publication, printed_verb, sender_column, sight, sight_of}
 use Rattle.lab_picture.specs.Words.{word_at}
 use Rattle.lab_picture.proofs.Markups.{arrow_is, band_is, changes_are, each_is, head_is, marked_is, page_is, row_is}
 
@@ -82,7 +82,7 @@ event_kept : (m : Drawn) (number : ℕ) (line report : List ℕ) (d : Declared) 
 event_kept m number line report d w mirrors k =
     marks_kept (record m { listed = counts_of d w mirrors }) number line
     (marks_of m line report d w mirrors) (joined (sight m.rows d w line report) _
-    (verb_is (reported_verb report) m.rows d w line report)
+    (verb_is (printed_verb report) m.rows d w line report)
     (changes_are m.rows m.columns m.listed (counts_of d w mirrors)))
     (record { heads = k.heads; body = k.body })
 
@@ -115,13 +115,13 @@ line_goes : (env : RunEnvironment) (p : Passed) (m : Drawn) (line : List ℕ) (o
     → LineGoes env p m line others n
 line_goes env p m line others noted go k =
     let g = go (after_note p line) m k in record { text = g.text; form = g.form }
-line_goes env p m line others (scripted (says report next)) go k =
+line_goes env p m line others (scripted (accepted report next)) go k =
     let at = taken_line p line report next in
     let g = go (after_line p line report next) (with_state m at (Some next)) (state_kept m at (Some next) k) in
     record { text = g.text; form = g.form }
 line_goes env p m line others (scripted (refused why)) go k = record { text = refl; form = k }
 line_goes env p m line others (scripted foreign) go k = record { text = refl; form = k }
-line_goes env p m line others (scripted unjudged) go k = record { text = refl; form = k }
+line_goes env p m line others (scripted not_evaluated) go k = record { text = refl; form = k }
 
 goes : (env : RunEnvironment) (p : Passed) (m : Drawn) (ls : List (List ℕ)) → Kept m → Goes env p m ls
 unfolding ran_from

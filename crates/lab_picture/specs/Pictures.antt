@@ -2,7 +2,7 @@
 -- which something is to be seen.
 use Rattle.std.specs.Prelude.{false, ℕ, List, [], Option, Some, None}
 use Rattle.group_model.specs.World.{World}
-use Rattle.script_story.specs.Judging.{RunEnvironment, State}
+use Rattle.script_story.specs.Evaluation.{RunEnvironment, State}
 use Rattle.lab_text.specs.Outcomes.{Outcome}
 use Rattle.lab_lines.specs.Folding.{FormOf, Lined, form_outcome}
 use Rattle.lab_lines.specs.Transcript.{status_at}

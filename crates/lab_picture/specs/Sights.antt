@@ -151,8 +151,8 @@ abbrev pub verb_named_by : Option (List ℕ) → Option Verb
 verb_named_by None = None
 verb_named_by (Some word) = verb_of_word word
 
-abbrev pub reported_verb : List ℕ → Option Verb
-reported_verb report = verb_named_by (printed (word_at 0 report))
+abbrev pub printed_verb : List ℕ → Option Verb
+printed_verb report = verb_named_by (printed (word_at 0 report))
 
 abbrev pub sight : ℕ → Declared → World → List ℕ → List ℕ → List ℕ
-sight row d w line report = sight_of (reported_verb report) row d w line report
+sight row d w line report = sight_of (printed_verb report) row d w line report

@@ -1,5 +1,5 @@
 ghost use Rattle.std.specs.Prelude.{◌≡◌, ℕ, List, true};
-ghost use Rattle.script_story.specs.Judging.{RunEnvironment};
+ghost use Rattle.script_story.specs.Evaluation.{RunEnvironment};
 ghost use Rattle.lab_picture.specs.Laws.{IsMarkup, is_character_data};
 ghost use Rattle.lab_picture.specs.Pictures.{draw_of};
 ghost use Rattle.lab_picture.specs.Svg.{escaped};

@@ -1,7 +1,7 @@
 ghost use Rattle.std.specs.Prelude.{◌≡◌, ◌++◌, OnOk};
 ghost use Rattle.bench_world.specs.Worlds.{world_of};
 ghost use Rattle.lab_picture.specs.Sights.{answer, command, delivery, fetch, mirror_delivery, publication};
-ghost use Rattle.lab_picture.specs.Sights.{reported_verb, restart, sight, timer};
+ghost use Rattle.lab_picture.specs.Sights.{printed_verb, restart, sight, timer};
 
 use crate::columns::{columns_of, member_column, mirror_column, printed, sender_column};
 use crate::marks::{put_arrow, put_band, put_marked};
@@ -12,8 +12,8 @@ use script_lang::{Verb, Words};
 use std::alloc::AllocError;
 
 // The verb that a report begins with.
-fn reported_verb(report: &[u8]) -> Option<Verb>
-    ensures { result ≡ reported_verb report.now }
+fn printed_verb(report: &[u8]) -> Option<Verb>
+    ensures { result ≡ printed_verb report.now }
 {
     match printed(word(report, 0)) {
         Some(verb) => Verb::of(verb),
@@ -33,7 +33,7 @@ pub(crate) fn put_sight(
     ensures { OnOk result (out.new.items ≡ out.old.items
         ++ sight row words.now (world_of world.now) line.now report.now) }
 {
-    let Some(verb) = reported_verb(report) else {
+    let Some(verb) = printed_verb(report) else {
         return Ok(());
     };
     match verb {

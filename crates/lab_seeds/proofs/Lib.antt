@@ -2,4 +2,4 @@ mod Listings
 mod Medians
 mod ScriptReading
 mod SeedOutcomes
-mod StoryEnds
+mod RunEnds

@@ -13,7 +13,7 @@ use Rattle.script_report.specs.declared.refusal.Refusal.TheVariants.{NumbersSpen
 use Rattle.script_report.specs.declared.refusal.Refusal.TheVariants.{BadPacket, NoSuchNumber, NoSuchWatch, NotLive}
 use Rattle.script_report.specs.Refusals.{refusal_number, refusal_word}
 use Rattle.script_story.specs.declared.ending.Ending.{Ending}
-use Rattle.script_story.specs.Story.{Story}
+use Rattle.script_story.specs.ScriptRun.{ScriptRun}
 use Rattle.repo_io.specs.Outside.{GainsText, GainsPrefix}
 use Rattle.repo_io.proofs.Outputs.{prefix_taken, prefix_whole}
 use Rattle.lab_text.specs.declared.status.LabStatus.{LabStatus}
@@ -47,7 +47,7 @@ word_known NoSuchNumber = refl
 word_known NoSuchWatch = refl
 word_known NotLive = refl
 
-module _ (s : Story) where
+module _ (s : ScriptRun) where
   text_of_end : (seed : ℕ) (e : SeedEnd) → IsEndOf s e → end_text seed e ≡ seed_text seed s
   text_of_end seed (Done f) is =
       ap (done_text seed) is.figures ∙ ap (λ (e : Ending). ending_text seed e s.world) (sym is.ending)
@@ -69,40 +69,41 @@ module _ (s : Story) where
 
 -- ---- seeds that follow one another
 
-module _ (story : ℕ → Story) where
+module _ (script_run : ℕ → ScriptRun) where
   pub each_ended : (first : ℕ) (ends : List SeedEnd)
-      → ((k : ℕ) (d : SeedEnd) → k < length ends → HasEnd story (first + k) (get_or ends k d))
-      → AreEnds story first ends
+      → ((k : ℕ) (d : SeedEnd) → k < length ends → HasEnd script_run (first + k) (get_or ends k d))
+      → AreEnds script_run first ends
   each_ended first [] each = tt
   each_ended first (e ∷ ends) each =
       let here : first + 0 ≡ first = omega arith in (
-        subst (λ (n : ℕ). HasEnd story n e) here (each 0 e (omega arith)),
+        subst (λ (n : ℕ). HasEnd script_run n e) here (each 0 e (omega arith)),
         each_ended (first + 1) ends (λ k d lt.
             let next : first + suc k ≡ first + 1 + k = omega arith in
-            subst (λ (n : ℕ). HasEnd story n (get_or ends k d)) next (each (suc k) d (omega arith))),
+            subst (λ (n : ℕ). HasEnd script_run n (get_or ends k d)) next (each (suc k) d (omega arith))),
       )
 
-  texts : (first : ℕ) (ends : List SeedEnd) → AreEnds story first ends
-      → ends_text first ends ≡ flat_map (λ seed. seed_text seed (story seed)) (numbers_from first (length ends))
+  texts : (first : ℕ) (ends : List SeedEnd) → AreEnds script_run first ends
+      → ends_text first ends ≡ flat_map (λ seed. seed_text seed (script_run seed)) (numbers_from first (length ends))
   texts first [] are = refl
-  texts first (e ∷ ends) are = rw (text_of_end (story first) first e are.0, texts (first + 1) ends are.1) refl
+  texts first (e ∷ ends) are = rw (text_of_end (script_run first) first e are.0, texts (first + 1) ends are.1) refl
 
-  figures : (first : ℕ) (ends : List SeedEnd) → AreEnds story first ends → flat_map end_figures ends
-      ≡ flat_map (λ seed. figures_if_done (story seed)) (numbers_from first (length ends))
+  figures : (first : ℕ) (ends : List SeedEnd) → AreEnds script_run first ends → flat_map end_figures ends
+      ≡ flat_map (λ seed. figures_if_done (script_run seed)) (numbers_from first (length ends))
   figures first [] are = refl
-  figures first (e ∷ ends) are = rw (figures_of_end (story first) e are.0, figures (first + 1) ends are.1) refl
+  figures first (e ∷ ends) are = rw (figures_of_end (script_run first) e are.0, figures (first + 1) ends are.1) refl
 
-  done : (first : ℕ) (ends : List SeedEnd) → AreEnds story first ends → list_all end_is_done ends
-      ≡ list_all (λ seed. is_done (story seed).ending) (numbers_from first (length ends))
+  done : (first : ℕ) (ends : List SeedEnd) → AreEnds script_run first ends → list_all end_is_done ends
+      ≡ list_all (λ seed. is_done (script_run seed).ending) (numbers_from first (length ends))
   done first [] are = refl
-  done first (e ∷ ends) are = rw (done_of_end (story first) e are.0, done (first + 1) ends are.1) refl
+  done first (e ∷ ends) are = rw (done_of_end (script_run first) e are.0, done (first + 1) ends are.1) refl
 
-  module _ (first count : ℕ) (ends : List SeedEnd) (are : AreEnds story first ends) (len : length ends ≡ count) where
+  module _ (first count : ℕ) (ends : List SeedEnd) (are : AreEnds script_run first ends)
+      (len : length ends ≡ count) where
     pub text_is : ends_text first ends ++ ranks_text (flat_map end_figures ends)
-        ≡ (outcome_over story (numbers_from first count)).text
+        ≡ (outcome_over script_run (numbers_from first count)).text
     text_is = rw (← len) (rw (texts first ends are, figures first ends are) refl)
 
-    pub status_is : ends_status ends ≡ (outcome_over story (numbers_from first count)).status
+    pub status_is : ends_status ends ≡ (outcome_over script_run (numbers_from first count)).status
     status_is = rw (← len) (rw (done first ends are) refl)
 
 -- the ends that all are there

@@ -5,19 +5,19 @@ use Rattle.script_report.specs.Refusals.{refusal_number}
 use Rattle.script_lines.specs.declared.error.LineError.{LineError}
 use Rattle.script_lines.specs.declared.error.LineError.TheVariants as error
 use Rattle.script_story.specs.declared.ending.Ending.TheVariants as ending
-use Rattle.script_story.specs.Story.{Reached, Story}
+use Rattle.script_story.specs.ScriptRun.{Reached, ScriptRun}
 use Rattle.lab_seeds.specs.declared.end.SeedEnd.{SeedEnd}
 use Rattle.lab_seeds.specs.declared.end.SeedEnd.TheVariants.{Done, Refused, Foreign}
 use Rattle.lab_seeds.specs.declared.figures.Figures.{Figures}
 use Rattle.lab_seeds.specs.Counted.{figures_at}
 
 -- All lines of the story were taken, and so much was counted.
-pub record IsDoneWith (s : Story) (f : Figures) : Type 0 where
+pub record IsDoneWith (s : ScriptRun) (f : Figures) : Type 0 where
   pub ending : s.ending ≡ ending.Done
   pub figures : f ≡ figures_at s.world
 
 -- The story ended so.
-abbrev pub IsEndOf : Story → SeedEnd → Type 0
+abbrev pub IsEndOf : ScriptRun → SeedEnd → Type 0
 IsEndOf s (Done f) = IsDoneWith s f
 IsEndOf s (Refused line why) = s.ending ≡ ending.Refused line (refusal_number why)
 IsEndOf s (Foreign line) = s.ending ≡ ending.Foreign line
@@ -38,10 +38,10 @@ EndsAfter r false end = end ≡ Done (figures_at r.state.world)
 -- ---- seeds that follow one another
 
 -- The story of a seed ended so.
-abbrev pub HasEnd : (ℕ → Story) → ℕ → SeedEnd → Type 0
-HasEnd story seed e = IsEndOf (story seed) e
+abbrev pub HasEnd : (ℕ → ScriptRun) → ℕ → SeedEnd → Type 0
+HasEnd script_run seed e = IsEndOf (script_run seed) e
 
 -- These are how the stories of the seeds from the first on ended.
-abbrev pub AreEnds : (ℕ → Story) → ℕ → List SeedEnd → Type 0
-AreEnds story first [] = ⊤
-AreEnds story first (e ∷ ends) = IsEndOf (story first) e × AreEnds story (first + 1) ends
+abbrev pub AreEnds : (ℕ → ScriptRun) → ℕ → List SeedEnd → Type 0
+AreEnds script_run first [] = ⊤
+AreEnds script_run first (e ∷ ends) = IsEndOf (script_run first) e × AreEnds script_run (first + 1) ends

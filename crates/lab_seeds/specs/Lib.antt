@@ -7,6 +7,6 @@ pub mod Texts
 pub mod Ends
 pub mod Inputs
 pub mod Reading
-pub mod Stories
+pub mod ScriptRuns
 pub mod Endings
 pub mod Seeding

@@ -10,7 +10,7 @@ use Rattle.script_report.specs.declared.refusal.Refusal.TheVariants.{BadPacket, 
 use Rattle.script_report.specs.Refusals.{refusal_number, refusal_word}
 use Rattle.script_story.specs.declared.ending.Ending.{Ending}
 use Rattle.script_story.specs.declared.ending.Ending.TheVariants as ending
-use Rattle.script_story.specs.Story.{Story}
+use Rattle.script_story.specs.ScriptRun.{ScriptRun}
 use Rattle.lab_text.specs.declared.status.LabStatus.{LabStatus}
 use Rattle.lab_text.specs.declared.status.LabStatus.TheVariants.{Done, Usage, Refused, ReadFault}
 use Rattle.lab_text.specs.declared.status.LabStatus.TheVariants.{WriteFault, NoMemory}
@@ -22,7 +22,7 @@ use Rattle.lab_seeds.specs.Counted.{figures_at}
 use Rattle.lab_seeds.specs.Ends.{end_is_done}
 use Rattle.lab_seeds.specs.Inputs.{script_of}
 use Rattle.lab_seeds.specs.Seeds.{seeds_between}
-use Rattle.lab_seeds.specs.Stories.{seed_story}
+use Rattle.lab_seeds.specs.ScriptRuns.{seed_run}
 use Rattle.lab_seeds.specs.Texts.{done_text, foreign_text, ranks_text, refused_text}
 
 -- ---- one seed
@@ -44,7 +44,7 @@ ending_text seed (ending.Refused line number) world = refused_text seed line num
 ending_text seed (ending.Foreign line) world = foreign_text seed line
 
 -- The line that is written of a seed whose story this is.
-abbrev pub seed_text : ℕ → Story → List ℕ
+abbrev pub seed_text : ℕ → ScriptRun → List ℕ
 seed_text seed s = ending_text seed s.ending s.world
 
 -- ---- all seeds
@@ -56,20 +56,20 @@ is_done (ending.Refused line number) = false
 is_done (ending.Foreign line) = false
 
 -- What was counted in a story, if all its lines were taken.
-abbrev pub figures_if_done : Story → List Figures
+abbrev pub figures_if_done : ScriptRun → List Figures
 figures_if_done s = if is_done s.ending then figures_at s.world ∷ [] else []
 
 -- The text over the stories of seeds, and the status.
-abbrev pub outcome_over : (ℕ → Story) → List ℕ → Outcome
-outcome_over story seeds = record {
-  text = flat_map (λ seed. seed_text seed (story seed)) seeds
-      ++ ranks_text (flat_map (λ seed. figures_if_done (story seed)) seeds);
-  status = if list_all (λ seed. is_done (story seed).ending) seeds then Done else Refused;
+abbrev pub outcome_over : (ℕ → ScriptRun) → List ℕ → Outcome
+outcome_over script_run seeds = record {
+  text = flat_map (λ seed. seed_text seed (script_run seed)) seeds
+      ++ ranks_text (flat_map (λ seed. figures_if_done (script_run seed)) seeds);
+  status = if list_all (λ seed. is_done (script_run seed).ending) seeds then Done else Refused;
 }
 
 -- What comes of an input under the seeds from the first to the last.
 abbrev pub seeds_of : ℕ → ℕ → List ℕ → Outcome
-seeds_of first last input = outcome_over (seed_story (script_of input)) (seeds_between first last)
+seeds_of first last input = outcome_over (seed_run (script_of input)) (seeds_between first last)
 
 -- ---- as it is written
 

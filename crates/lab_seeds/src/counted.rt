@@ -25,7 +25,7 @@ pub(crate) fn figures_of(world: &World) -> Figures
 fn listed_entries(world: &World) -> u64
     ensures { result ≡ listed_entries (world_of world.now) }
 {
-    world.is_sound();
+    world.cite_soundness();
     let count = world.group().roster().len() as u32;
     let mut listed = 0;
     for member in 0..count {
@@ -40,6 +40,6 @@ fn entries_of(world: &World, member: u32) -> u64
     ensures count { result ≡ length (catalogue_at (world_of world.now) member) }
     ensures few { result ≤ 100000 }
 {
-    world.is_sound();
+    world.cite_soundness();
     world.member(member).catalogue().entries().len() as u64
 }

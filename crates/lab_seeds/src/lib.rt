@@ -9,8 +9,8 @@ mod figures;
 mod input;
 mod ranks;
 mod running;
+mod script_run;
 mod seed;
-mod story;
 mod text;
 
 pub use running::seeds;

@@ -9,12 +9,12 @@ ghost use Rattle.lab_seeds.specs.Endings.{AreEnds, HasEnd};
 ghost use Rattle.lab_seeds.specs.Ends.{end_is_done};
 ghost use Rattle.lab_seeds.specs.Reading.{lines_read};
 ghost use Rattle.lab_seeds.specs.Seeding.{WritesSeeds, ends_status, outcome_over, seeds_of};
-ghost use Rattle.lab_seeds.specs.Stories.{seed_story};
+ghost use Rattle.lab_seeds.specs.ScriptRuns.{seed_run};
 
 use crate::end::SeedEnd;
 use crate::input::{ScriptLines, read_script};
+use crate::script_run::end_of;
 use crate::seed::seeded;
-use crate::story::end_of;
 use crate::text::text_of;
 use lab_text::LabStatus;
 use repo_io::{ReadFault, Sink, Source, write_whole};
@@ -72,7 +72,7 @@ fn write_seeds<R: Threads + Sync, K: Sink>(
 ) -> LabStatus
     requires count { first + count ≤ 2 ^ 64 }
     requires workers { 1 ≤ workers }
-    ensures { WritesSeeds (outcome_over (seed_story (lines_read script.now)) (numbers_from first count))
+    ensures { WritesSeeds (outcome_over (seed_run (lines_read script.now)) (numbers_from first count))
         (K.out sink.old) (K.out sink.new) (HasRisen (K.faults sink.old) (K.faults sink.new)) result }
 {
     let Ok(ends) = ends_of(rt, alloc, first, count, workers, script) else {
@@ -98,7 +98,7 @@ fn ends_of<R: Threads + Sync>(
 ) -> Result<Vec<SeedEnd>, AllocError>
     requires count { first + count ≤ 2 ^ 64 }
     requires workers { 1 ≤ workers }
-    ensures ends { IfOk result (λ ends. AreEnds (seed_story (lines_read script.now)) first ends.items) }
+    ensures ends { IfOk result (λ ends. AreEnds (seed_run (lines_read script.now)) first ends.items) }
     ensures count { IfOk result (λ ends. length ends.items ≡ count) }
 {
     let mut room = vec![in alloc; None; count]?;
@@ -116,7 +116,7 @@ fn ends_in<R: Threads + Sync>(
 ) -> Result<Vec<SeedEnd>, AllocError>
     requires count { first + length room.old ≤ 2 ^ 64 }
     requires workers { 1 ≤ workers }
-    ensures ends { IfOk result (λ ends. AreEnds (seed_story (lines_read script.now)) first ends.items) }
+    ensures ends { IfOk result (λ ends. AreEnds (seed_run (lines_read script.now)) first ends.items) }
     ensures count { IfOk result (λ ends. length ends.items ≡ length room.old) }
 {
     put_ends(rt, alloc, first, workers, script, room);
@@ -135,7 +135,7 @@ fn put_ends<R: Threads + Sync>(
     requires count { first + length room.old ≤ 2 ^ 64 }
     requires workers { 1 ≤ workers }
     ensures { (k : ℕ) (d : _) → k < length room.new
-        → IfSome (slice_index_or room.new k d) (HasEnd (seed_story (lines_read script.now)) (first + k)) }
+        → IfSome (slice_index_or room.new k d) (HasEnd (seed_run (lines_read script.now)) (first + k)) }
 {
     thread::for_each_mut(
         rt,
@@ -143,7 +143,7 @@ fn put_ends<R: Threads + Sync>(
         workers as usize,
         &|place: usize, end: &mut Option<SeedEnd>|
             requires { first + place < 2 ^ 64 }
-            ensures { IfSome end.new (HasEnd (seed_story (lines_read script.entry.now)) (first + place)) }
+            ensures { IfSome end.new (HasEnd (seed_run (lines_read script.entry.now)) (first + place)) }
         { *end = seed_end(rt, alloc, script, first + place as u64) },
     );
 }
@@ -155,7 +155,7 @@ fn seed_end<R: Threads + Sync>(
     script: &ScriptLines,
     seed: u64,
 ) -> Option<SeedEnd>
-    ensures { IfSome result (HasEnd (seed_story (lines_read script.now)) seed) }
+    ensures { IfSome result (HasEnd (seed_run (lines_read script.now)) seed) }
 {
     end_of(rt, alloc, script, &seeded(seed)).ok()
 }

@@ -10,7 +10,7 @@ use Rattle.lab_text.specs.Differences.{before_common_suffix, difference, differi
 
 -- ---- the same
 
-same_is_equal : (expected came : List (List ℕ)) → are_same expected came ≡ true → expected ≡ came
+same_is_equal : (expected actual : List (List ℕ)) → are_same expected actual ≡ true → expected ≡ actual
 unfolding after_common_prefix
 same_is_equal [] [] e = refl
 same_is_equal [] (y ∷ ys) e = absurd cc
@@ -30,20 +30,20 @@ nothing_left (x ∷ xs) = rw ((bytes_eq-Decides x x).1 refl) (nothing_left xs)
 equal_is_same : (ls : List (List ℕ)) → are_same ls ls ≡ true
 equal_is_same ls = rw (nothing_left ls) refl
 
-pub same_just_where_equal : (expected came : List (List ℕ)) → (are_same expected came ≡ true) ↔ (expected ≡ came)
-same_just_where_equal expected came =
-    (same_is_equal expected came, λ e. rw e (equal_is_same came))
+pub same_just_where_equal : (expected actual : List (List ℕ)) → (are_same expected actual ≡ true) ↔ (expected ≡ actual)
+same_just_where_equal expected actual =
+    (same_is_equal expected actual, λ e. rw e (equal_is_same actual))
 
 -- ---- a common prefix
 
-record Shares (expected came : List (List ℕ)) (d : Difference) : Type 0 where
+record Shares (expected actual : List (List ℕ)) (d : Difference) : Type 0 where
   prefix : List (List ℕ)
   expected_is : expected ≡ prefix ++ d.expected
-  came_is : came ≡ prefix ++ d.came
+  came_is : actual ≡ prefix ++ d.actual
 
-shares_prefix : (expected came : List (List ℕ)) → Shares expected came (after_common_prefix expected came)
+shares_prefix : (expected actual : List (List ℕ)) → Shares expected actual (after_common_prefix expected actual)
 unfolding after_common_prefix
-shares_prefix [] came = record { prefix = []; expected_is = refl; came_is = refl }
+shares_prefix [] actual = record { prefix = []; expected_is = refl; came_is = refl }
 shares_prefix (x ∷ xs) [] = record { prefix = []; expected_is = refl; came_is = refl }
 shares_prefix (x ∷ xs) (y ∷ ys) = go (bytes_eq x y) refl (shares_prefix xs ys) where
   go : (b : Bool) → bytes_eq x y ≡ b → Shares xs ys (after_common_prefix xs ys)
@@ -56,18 +56,18 @@ shares_prefix (x ∷ xs) (y ∷ ys) = go (bytes_eq x y) refl (shares_prefix xs y
   })
   go false t more = rw t (record { prefix = []; expected_is = refl; came_is = refl })
 
-again : (expected came : List (List ℕ))
-    → after_common_prefix (after_common_prefix expected came).expected (after_common_prefix expected came).came
-    ≡ after_common_prefix expected came
+again : (expected actual : List (List ℕ))
+    → after_common_prefix (after_common_prefix expected actual).expected (after_common_prefix expected actual).actual
+    ≡ after_common_prefix expected actual
 unfolding after_common_prefix
-again [] came = refl
+again [] actual = refl
 again (x ∷ xs) [] = refl
 again (x ∷ xs) (y ∷ ys) = go (bytes_eq x y) refl (again xs ys) where
   go : (b : Bool) → bytes_eq x y ≡ b
-      → after_common_prefix (after_common_prefix xs ys).expected (after_common_prefix xs ys).came
+      → after_common_prefix (after_common_prefix xs ys).expected (after_common_prefix xs ys).actual
       ≡ after_common_prefix xs ys
       → after_common_prefix (after_common_prefix (x ∷ xs) (y ∷ ys)).expected
-      (after_common_prefix (x ∷ xs) (y ∷ ys)).came ≡ after_common_prefix (x ∷ xs) (y ∷ ys)
+      (after_common_prefix (x ∷ xs) (y ∷ ys)).actual ≡ after_common_prefix (x ∷ xs) (y ∷ ys)
   go true t more = rw t more
   go false t more = rw (t, t) refl
 
@@ -93,16 +93,16 @@ still_apart (x ∷ xs) (y ∷ ys) suffix e = go (bytes_eq x y) refl where
 rest_ended : (rest p e : List (List ℕ)) → reverse rest ≡ p ++ e → rest ≡ reverse e ++ reverse p
 rest_ended rest p e back = sym (reverse-reverse rest) ∙ ap reverse back ∙ reverse-append p e
 
-pub differing_between : (expected came : List (List ℕ)) → LiesBetween expected came (differing expected came)
-differing_between expected came =
-    let leading = shares_prefix expected came in
-    let first = after_common_prefix expected came in
-    let back = shares_prefix (reverse first.expected) (reverse first.came) in
+pub differing_between : (expected actual : List (List ℕ)) → LiesBetween expected actual (differing expected actual)
+differing_between expected actual =
+    let leading = shares_prefix expected actual in
+    let first = after_common_prefix expected actual in
+    let back = shares_prefix (reverse first.expected) (reverse first.actual) in
     record {
       prefix = leading.prefix;
       suffix = reverse back.prefix;
       expected_is = joined expected leading.prefix first.expected back.prefix _ leading.expected_is back.expected_is;
-      came_is = joined came leading.prefix first.came back.prefix _ leading.came_is back.came_is;
+      came_is = joined actual leading.prefix first.actual back.prefix _ leading.came_is back.came_is;
     } where
       joined : (all prefix rest p e : List (List ℕ)) → all ≡ prefix ++ rest → reverse rest ≡ p ++ e
           → all ≡ (prefix ++ reverse e) ++ reverse p
@@ -110,36 +110,36 @@ differing_between expected came =
           is ∙ ap (λ (ls : List (List ℕ)). prefix ++ ls) (rest_ended rest p e back)
           ∙ sym (append_assoc prefix (reverse e) (reverse p))
 
-pub differing_apart : (expected came : List (List ℕ)) → IsApart (differing expected came)
-differing_apart expected came =
-    let first = after_common_prefix expected came in
-    let last = after_common_prefix (reverse first.expected) (reverse first.came) in
-    let back = shares_prefix (reverse first.expected) (reverse first.came) in
+pub differing_apart : (expected actual : List (List ℕ)) → IsApart (differing expected actual)
+differing_apart expected actual =
+    let first = after_common_prefix expected actual in
+    let last = after_common_prefix (reverse first.expected) (reverse first.actual) in
+    let back = shares_prefix (reverse first.expected) (reverse first.actual) in
     record {
-      begins = still_apart (reverse last.expected) (reverse last.came) (reverse back.prefix)
+      begins = still_apart (reverse last.expected) (reverse last.actual) (reverse back.prefix)
           (rw (
             ← rest_ended first.expected back.prefix last.expected back.expected_is,
-            ← rest_ended first.came back.prefix last.came back.came_is,
-          ) (again expected came));
-      ends = rw (reverse-reverse last.expected, reverse-reverse last.came)
-          (ap reversed (again (reverse first.expected) (reverse first.came)));
+            ← rest_ended first.actual back.prefix last.actual back.came_is,
+          ) (again expected actual));
+      ends = rw (reverse-reverse last.expected, reverse-reverse last.actual)
+          (ap reversed (again (reverse first.expected) (reverse first.actual)));
     }
 
-pub same_just_where_none : (expected came : List (List ℕ))
-    → (are_same expected came ≡ true) ↔ (differing expected came ≡ difference [] [])
+pub same_just_where_none : (expected actual : List (List ℕ))
+    → (are_same expected actual ≡ true) ↔ (differing expected actual ≡ difference [] [])
 unfolding after_common_prefix
-same_just_where_none expected came = (none, same) where
-  none : are_same expected came ≡ true → differing expected came ≡ difference [] []
+same_just_where_none expected actual = (none, same) where
+  none : are_same expected actual ≡ true → differing expected actual ≡ difference [] []
   none s =
-      let e : after_common_prefix expected came ≡ difference [] [] =
-      rw (same_is_equal expected came s) (nothing_left came) in
+      let e : after_common_prefix expected actual ≡ difference [] [] =
+      rw (same_is_equal expected actual s) (nothing_left actual) in
       ap before_common_suffix e
 
-  same : differing expected came ≡ difference [] [] → are_same expected came ≡ true
+  same : differing expected actual ≡ difference [] [] → are_same expected actual ≡ true
   same d =
-      let between = differing_between expected came in
+      let between = differing_between expected actual in
       let e : expected ≡ (between.prefix ++ []) ++ between.suffix = between.expected_is
       ∙ ap (λ (t : Difference). (between.prefix ++ t.expected) ++ between.suffix) d in
-      let c : came ≡ (between.prefix ++ []) ++ between.suffix = between.came_is
-      ∙ ap (λ (t : Difference). (between.prefix ++ t.came) ++ between.suffix) d in
-      (same_just_where_equal expected came).1 (e ∙ sym c)
+      let c : actual ≡ (between.prefix ++ []) ++ between.suffix = between.came_is
+      ∙ ap (λ (t : Difference). (between.prefix ++ t.actual) ++ between.suffix) d in
+      (same_just_where_equal expected actual).1 (e ∙ sym c)

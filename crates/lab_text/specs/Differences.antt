@@ -9,31 +9,31 @@ use Rattle.lab_text.specs.Transcripts.{shown_text}
 -- Lines that were expected, and lines that came.
 pub record Difference : Type 0 where
   pub expected : List (List ℕ)
-  pub came : List (List ℕ)
+  pub actual : List (List ℕ)
 
 -- The lines that were expected, and those that came.
 abbrev pub difference : List (List ℕ) → List (List ℕ) → Difference
-difference expected came = record { expected = expected; came = came }
+difference expected actual = record { expected = expected; actual = actual }
 
 -- What is left after the lines with which both begin.
 unfoldable pub after_common_prefix : List (List ℕ) → List (List ℕ) → Difference
-after_common_prefix [] came = difference [] came
+after_common_prefix [] actual = difference [] actual
 after_common_prefix (line ∷ expected) [] = difference (line ∷ expected) []
-after_common_prefix (line ∷ expected) (other ∷ came) =
-    if bytes_eq line other then after_common_prefix expected came
-    else difference (line ∷ expected) (other ∷ came)
+after_common_prefix (line ∷ expected) (other ∷ actual) =
+    if bytes_eq line other then after_common_prefix expected actual
+    else difference (line ∷ expected) (other ∷ actual)
 
 -- Both lists of lines from the last to the first.
 abbrev pub reversed : Difference → Difference
-reversed d = difference (reverse d.expected) (reverse d.came)
+reversed d = difference (reverse d.expected) (reverse d.actual)
 
 -- What is left before the lines with which both end.
 abbrev pub before_common_suffix : Difference → Difference
-before_common_suffix d = reversed (after_common_prefix (reverse d.expected) (reverse d.came))
+before_common_suffix d = reversed (after_common_prefix (reverse d.expected) (reverse d.actual))
 
 -- What lies between the common prefix and the common suffix.
 abbrev pub differing : List (List ℕ) → List (List ℕ) → Difference
-differing expected came = before_common_suffix (after_common_prefix expected came)
+differing expected actual = before_common_suffix (after_common_prefix expected actual)
 
 -- There are no lines.
 abbrev pub is_empty_list : List (List ℕ) → Bool
@@ -42,24 +42,24 @@ is_empty_list (line ∷ others) = false
 
 -- Nothing lies between them.
 abbrev pub are_same : List (List ℕ) → List (List ℕ) → Bool
-are_same expected came =
-    is_empty_list (after_common_prefix expected came).expected
-    && is_empty_list (after_common_prefix expected came).came
+are_same expected actual =
+    is_empty_list (after_common_prefix expected actual).expected
+    && is_empty_list (after_common_prefix expected actual).actual
 
 -- `- ` marks what was expected, `+ ` what came.
 abbrev pub difference_text : Difference → List ℕ
-difference_text d = marked_lines (codes "- ") d.expected ++ marked_lines (codes "+ ") d.came
+difference_text d = marked_lines (codes "- ") d.expected ++ marked_lines (codes "+ ") d.actual
 
 -- Both lists of lines are a common prefix, what differs, and a common suffix.
-pub record LiesBetween (expected came : List (List ℕ)) (d : Difference) : Type 0 where
+pub record LiesBetween (expected actual : List (List ℕ)) (d : Difference) : Type 0 where
   pub prefix : List (List ℕ)
   pub suffix : List (List ℕ)
   pub expected_is : expected ≡ (prefix ++ d.expected) ++ suffix
-  pub came_is : came ≡ (prefix ++ d.came) ++ suffix
+  pub came_is : actual ≡ (prefix ++ d.actual) ++ suffix
 
 -- What differs neither begins nor ends with a common line.
 pub record IsApart (d : Difference) : Type 0 where
-  pub begins : after_common_prefix d.expected d.came ≡ d
+  pub begins : after_common_prefix d.expected d.actual ≡ d
   pub ends : before_common_suffix d ≡ d
 
 -- ---- of one line, and of all
@@ -77,9 +77,9 @@ numbered_line number line =
 -- What is written of the line of a number whose report was expected to have some lines, and has others: nothing where
 -- they are the same.
 abbrev pub line_difference_text : ℕ → List ℕ → List (List ℕ) → List (List ℕ) → List ℕ
-line_difference_text number line expected came =
-    if are_same expected came then []
-    else numbered_line number line ++ difference_text (differing expected came)
+line_difference_text number line expected actual =
+    if are_same expected actual then []
+    else numbered_line number line ++ difference_text (differing expected actual)
 
 -- `same LINES`, or `differs LINES of LINES`, with a line feed.
 abbrev pub sum_text : ℕ → ℕ → List ℕ

@@ -39,18 +39,18 @@ pub fn put_difference(
     Ok(true)
 }
 
-fn are_empty(expected: &[u8], came: &[u8]) -> bool
-    ensures { result ≡ (is_empty_list (line_texts expected.now) && is_empty_list (line_texts came.now)) }
+fn are_empty(expected: &[u8], actual: &[u8]) -> bool
+    ensures { result ≡ (is_empty_list (line_texts expected.now) && is_empty_list (line_texts actual.now)) }
 {
-    expected.is_empty() && came.is_empty()
+    expected.is_empty() && actual.is_empty()
 }
 
 // What is left of both after the lines with which both begin.
-fn after_common_prefix<'a>(expected: &'a [u8], came: &'a [u8]) -> (&'a [u8], &'a [u8])
-    ensures { after_common_prefix (line_texts expected.now) (line_texts came.now)
+fn after_common_prefix<'a>(expected: &'a [u8], actual: &'a [u8]) -> (&'a [u8], &'a [u8])
+    ensures { after_common_prefix (line_texts expected.now) (line_texts actual.now)
         ≡ difference (line_texts result.0.now) (line_texts result.1.now) }
 {
-    let (mut left, mut right) = (expected, came);
+    let (mut left, mut right) = (expected, actual);
     while let Some((left_others, right_others)) = after_common_line(left, right) {
         left = left_others;
         right = right_others;
@@ -59,16 +59,16 @@ fn after_common_prefix<'a>(expected: &'a [u8], came: &'a [u8]) -> (&'a [u8], &'a
 }
 
 // The same of one line; none where they begin with no common line.
-fn after_common_line<'a>(expected: &'a [u8], came: &'a [u8]) -> Option<(&'a [u8], &'a [u8])>
+fn after_common_line<'a>(expected: &'a [u8], actual: &'a [u8]) -> Option<(&'a [u8], &'a [u8])>
     ensures lines { MatchOption result
-        (after_common_prefix (line_texts expected.now) (line_texts came.now)
-        ≡ difference (line_texts expected.now) (line_texts came.now))
-        (λ left. after_common_prefix (line_texts expected.now) (line_texts came.now)
+        (after_common_prefix (line_texts expected.now) (line_texts actual.now)
+        ≡ difference (line_texts expected.now) (line_texts actual.now))
+        (λ left. after_common_prefix (line_texts expected.now) (line_texts actual.now)
         ≡ after_common_prefix (line_texts left.0.now) (line_texts left.1.now)) }
     ensures fewer { IfSome result (λ left. length left.0.now < length expected.now) }
 {
     let (line, expected_others) = split_first_line(expected)?;
-    let (other, came_others) = split_first_line(came)?;
+    let (other, came_others) = split_first_line(actual)?;
     if without_feed(line) != without_feed(other) {
         return None;
     }
@@ -76,11 +76,11 @@ fn after_common_line<'a>(expected: &'a [u8], came: &'a [u8]) -> Option<(&'a [u8]
 }
 
 // What is left of both before the lines with which both end.
-fn before_common_suffix<'a>(expected: &'a [u8], came: &'a [u8]) -> (&'a [u8], &'a [u8])
-    ensures { before_common_suffix (difference (line_texts expected.now) (line_texts came.now))
+fn before_common_suffix<'a>(expected: &'a [u8], actual: &'a [u8]) -> (&'a [u8], &'a [u8])
+    ensures { before_common_suffix (difference (line_texts expected.now) (line_texts actual.now))
         ≡ difference (line_texts result.0.now) (line_texts result.1.now) }
 {
-    let (mut left, mut right) = (expected, came);
+    let (mut left, mut right) = (expected, actual);
     while let Some((left_others, right_others)) = before_common_line(left, right) {
         left = left_others;
         right = right_others;
@@ -89,16 +89,16 @@ fn before_common_suffix<'a>(expected: &'a [u8], came: &'a [u8]) -> (&'a [u8], &'
 }
 
 // The same of one line; none where they end with no common line.
-fn before_common_line<'a>(expected: &'a [u8], came: &'a [u8]) -> Option<(&'a [u8], &'a [u8])>
+fn before_common_line<'a>(expected: &'a [u8], actual: &'a [u8]) -> Option<(&'a [u8], &'a [u8])>
     ensures lines { MatchOption result
-        (before_common_suffix (difference (line_texts expected.now) (line_texts came.now))
-        ≡ difference (line_texts expected.now) (line_texts came.now))
-        (λ left. before_common_suffix (difference (line_texts expected.now) (line_texts came.now))
+        (before_common_suffix (difference (line_texts expected.now) (line_texts actual.now))
+        ≡ difference (line_texts expected.now) (line_texts actual.now))
+        (λ left. before_common_suffix (difference (line_texts expected.now) (line_texts actual.now))
         ≡ before_common_suffix (difference (line_texts left.0.now) (line_texts left.1.now))) }
     ensures fewer { IfSome result (λ left. length left.0.now < length expected.now) }
 {
     let (expected_others, line) = split_last_line(expected)?;
-    let (came_others, other) = split_last_line(came)?;
+    let (came_others, other) = split_last_line(actual)?;
     if without_feed(line) != without_feed(other) {
         return None;
     }
@@ -110,15 +110,15 @@ fn write_difference(
     number: u64,
     line: &[u8],
     expected: &[u8],
-    came: &[u8],
+    actual: &[u8],
 ) -> Result<(), AllocError>
     ensures ok { OnOk result (out.new.items ≡ out.old.items ++ (numbered_line number line.now
-        ++ difference_text (difference (line_texts expected.now) (line_texts came.now)))) }
+        ++ difference_text (difference (line_texts expected.now) (line_texts actual.now)))) }
     ensures kept { KeepsPrefix out.old.items out.new.items }
 {
     write_numbered(out, number, line)?;
     write_marked(out, b"- ", expected)?;
-    write_marked(out, b"+ ", came)
+    write_marked(out, b"+ ", actual)
 }
 
 fn write_numbered(out: &mut Vec<u8>, number: u64, line: &[u8]) -> Result<(), AllocError>

@@ -53,15 +53,15 @@ pub fn notes_are_read_back()
 
 /// Lines are the same just where they are equal, and just then nothing differs.
 pub fn the_same_is_equal()
-    ensures equal { (expected came : List (List ℕ)) → (are_same expected came ≡ true) ↔ (expected ≡ came) }
-    ensures none { (expected came : List (List ℕ)) → (are_same expected came ≡ true)
-        ↔ (differing expected came ≡ difference [] []) }
+    ensures equal { (expected actual : List (List ℕ)) → (are_same expected actual ≡ true) ↔ (expected ≡ actual) }
+    ensures none { (expected actual : List (List ℕ)) → (are_same expected actual ≡ true)
+        ↔ (differing expected actual ≡ difference [] []) }
 {}
 
 /// What differs lies between a common prefix and a common suffix, and neither begins nor ends with a common line.
 pub fn what_differs_lies_between()
-    ensures between { (expected came : List (List ℕ)) → LiesBetween expected came (differing expected came) }
-    ensures apart { (expected came : List (List ℕ)) → IsApart (differing expected came) }
+    ensures between { (expected actual : List (List ℕ)) → LiesBetween expected actual (differing expected actual) }
+    ensures apart { (expected actual : List (List ℕ)) → IsApart (differing expected actual) }
 {}
 
 /// Small texts, worked out.

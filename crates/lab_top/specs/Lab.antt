@@ -13,7 +13,7 @@ use Rattle.lab_lint.specs.Linting.{lint_of}
 use Rattle.lab_picture.specs.Drawn.{nothing_drawn}
 use Rattle.lab_picture.specs.Pictures.{draw_form, draw_of}
 use Rattle.lab_seeds.specs.Seeding.{seeds_of}
-use Rattle.lab_seeds.specs.Stories.{given_of}
+use Rattle.lab_seeds.specs.ScriptRuns.{given_of}
 use Rattle.lab_trace.specs.Trace.{nothing_noted, trace_form, trace_of}
 use Rattle.lab_top.specs.declared.asked.Asked.{Asked}
 use Rattle.lab_top.specs.declared.asked.Asked.TheVariants.{Transcript, Trace, Check, Lint, Seeds, Capture, Draw}

@@ -20,7 +20,7 @@ use Rattle.group_model.specs.World.{World, logs}
 use Rattle.group_model.proofs.PublicLaws.{all_parts_rise, parts_are_those}
 use Rattle.repo_member.specs.Groups.{GroupKeys}
 use Rattle.repo_member.specs.InGroup.{AreLogs}
-use Rattle.repo_mirror.specs.Asked.{is_kept}
+use Rattle.repo_mirror.specs.Asked.{is_for}
 use Rattle.repo_mirror.specs.Mirrors.{IsWantedByMirror, mirror_holds}
 use Rattle.repo_mirror.specs.MirrorState.{MirrorState, fetch_plan}
 use Rattle.repo_mirror.specs.ConsistentMirrors.{IsConsistentMirror, mirror_in_group}
@@ -39,7 +39,7 @@ module _ (g : GroupKeys) (w : World) (m : MirrorState) (are : AreLogs g (logs w)
   -- ---- the parts that it keeps
 
   abbrev keeps : Part → Bool
-  keeps t = mirror_holds (mirror_in_group m) t && is_kept m.pattern (logs w) (pair_of t)
+  keeps t = mirror_holds (mirror_in_group m) t && is_for m.pattern (logs w) (pair_of t)
 
   kept_there : (t : Part) → contains part_cmp (keys m.store) t ≡ true → IsPublishedPart (logs w) t
   kept_there t h =
@@ -58,7 +58,7 @@ module _ (g : GroupKeys) (w : World) (m : MirrorState) (are : AreLogs g (logs w)
       go (contains part_cmp (keys m.store) t) refl both.0 both.1 where
         go : (b : Bool) → contains part_cmp (keys m.store) t ≡ b
             → (b || (t.part == 0 && contains pair_cmp m.passed (pair_of t))) ≡ true
-            → is_kept m.pattern (logs w) (pair_of t) ≡ true → b ≡ true
+            → is_for m.pattern (logs w) (pair_of t) ≡ true → b ≡ true
         go true e held kept = refl
         go false e held kept =
             let passed = and_parts (t.part == 0) _ held in

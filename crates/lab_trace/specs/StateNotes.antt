@@ -8,7 +8,7 @@ use Rattle.repo_plan.specs.Plan.{wanted}
 use Rattle.group_model.specs.Publications.{all_parts}
 use Rattle.group_model.specs.Member.{plan_of}
 use Rattle.group_model.specs.World.{World, catalogue_at, logs, member}
-use Rattle.repo_mirror.specs.Asked.{is_kept}
+use Rattle.repo_mirror.specs.Asked.{is_for}
 use Rattle.script_lang.specs.Checking.{Declared, party_label}
 use Rattle.script_story.specs.Mirrors.{Mirroring, mirror_of, mirrored_entries, wanted_by}
 use Rattle.lab_trace.specs.declared.values.Timer.{Timer}
@@ -32,7 +32,7 @@ member_counts w m = record {
 -- The parts whose packets a mirror keeps: those that it holds, but for the records of objects that its pattern isn't
 -- for.
 abbrev pub kept_by : World → Mirroring → List Part
-kept_by w m = filter (λ t. m.holds t && is_kept m.pattern (logs w) (pair_of t)) (all_parts (logs w))
+kept_by w m = filter (λ t. m.holds t && is_for m.pattern (logs w) (pair_of t)) (all_parts (logs w))
 
 -- The same counts of a mirror.
 abbrev pub mirror_counts : World → Mirroring → Counts

@@ -3,7 +3,7 @@ use Rattle.std.specs.Prelude.{ℕ, false, List, [], ◌++◌, Option, Some, None
 use Rattle.group_model.specs.World.{World}
 use Rattle.script_lang.specs.Checking.{Declared}
 use Rattle.script_report.specs.Labels.{label_at}
-use Rattle.script_story.specs.Judging.{RunEnvironment, State}
+use Rattle.script_story.specs.Evaluation.{RunEnvironment, State}
 use Rattle.script_story.specs.Mirrors.{Mirroring}
 use Rattle.lab_text.specs.Outcomes.{Outcome}
 use Rattle.lab_text.specs.Transcripts.{line_with_report}

@@ -32,7 +32,7 @@ pub(crate) fn note_members(
         ++ member_notes words.now (changes last.old.items (members_values (world_of world.now)))) }
 {
     let mut noted = mem::replace(last, Vec::new(alloc)).into_iter();
-    world.is_sound();
+    world.cite_soundness();
     for m in 0..world.group().roster().len() as u32 {
         let member = note_member(alloc, noted.next(), words, world, m, text)?;
         last.push(member)?;
@@ -171,7 +171,7 @@ fn member_figures(world: &World, m: u32) -> Figures
     ensures { result ≡ member_figures (world_of world.now) m }
 {
     let member = world.member(m);
-    world.is_sound();
+    world.cite_soundness();
     Figures {
         timer: Some(Timer {
             mode: member.mode(),
@@ -190,7 +190,7 @@ fn mirror_figures(world: &World, i: u32) -> Figures
     ensures { result ≡ mirror_figures (world_of world.now) (mirror_of (map mirror_as world.now.mirrors) i) }
 {
     let mirror = world.mirror(i);
-    world.is_sound();
+    world.cite_soundness();
     Figures {
         timer: None,
         counts: Counts {

@@ -140,7 +140,7 @@ module _ (m f : ℕ) (a b c : Progress) (e : LiveReply) (passed : Makes (Pass m 
 -- ---- the actor that publishes
 
 abbrev heard_calls : ℕ → Heard → List Call
-heard_calls m h = Take (Some h.reported) ∷ Pass m 0 ∷ Hear m h.reported h.replied ∷ []
+heard_calls m h = Take (Some h.told) ∷ Pass m 0 ∷ Hear m h.told h.replied ∷ []
 
 hears_snoc : (m : ℕ) (hs : List Heard) (h : Heard) → hears m (hs ++ h ∷ []) ≡ hears m hs ++ heard_calls m h
 hears_snoc m [] h = refl
@@ -162,7 +162,7 @@ module _ (m n : ℕ) (a b : Progress) (before : Hears m n a b) where
   pub one_heard : (c d e : Progress) (o : Option (List ℕ)) (t : List ℕ) (r : LiveReply) → o ≡ Some t
       → Makes (Take o ∷ []) b c → Makes (Pass m 0 ∷ []) c d → Makes (Hear m t r ∷ []) d e → Hears m (n + 1) a e
   one_heard c d e o t r some took passed heard =
-      let h : Heard = record { reported = t; replied = r } in
+      let h : Heard = record { told = t; replied = r } in
       let took_it = subst (λ p. Makes (Take p ∷ []) b c) some took in
       let two = both_made b c d (Take (Some t) ∷ []) (Pass m 0 ∷ []) took_it passed in
       let three = both_made b d e (Take (Some t) ∷ Pass m 0 ∷ []) (Hear m t r ∷ []) two heard in
@@ -202,12 +202,12 @@ module _ (m : ℕ) (a b c : Progress) (o : Option (List ℕ)) (passed : Makes (P
   pub one_published : (t : List ℕ) → o ≡ Some t → (d e : Progress) (members : ℕ) → members ≡ a.members
       → Makes (tells members m t) c d → HearsSome m d e → PublishesNext m true a e
   one_published t some d e members same those heard =
-      let reported = subst (λ (k : ℕ). Makes (tells k m t) c d) same those in
+      let told = subst (λ (k : ℕ). Makes (tells k m t) c d) same those in
       let begun = subst (λ p. Makes (Pass m 0 ∷ Publish m p ∷ []) a c) some first_calls in
-      let two = both_made a c d (Pass m 0 ∷ Publish m (Some t) ∷ []) (tells a.members m t) begun reported in
+      let two = both_made a c d (Pass m 0 ∷ Publish m (Some t) ∷ []) (tells a.members m t) begun told in
       let all =
       both_made a d e (Pass m 0 ∷ Publish m (Some t) ∷ tells a.members m t) (hears_some m heard.0) two heard.2 in
-      (record { reported = t; heard = heard.0 }, heard.1, all)
+      (record { told = t; heard = heard.0 }, heard.1, all)
 
 rounds_snoc : (members m : ℕ) (rs : List Round) (r : Round)
     → rounds_calls members m (rs ++ r ∷ []) ≡ rounds_calls members m rs ++ round_calls members m r
@@ -251,11 +251,11 @@ module _ (m : ℕ) (a b c : Progress) (before : Rounds m a b) where
 
 module _ (m n : ℕ) (t : List ℕ) (a b c : Progress) (before : Makes (tells n m t) a b) where
   -- the next other
-  pub one_reported : n ≢ m → Makes (Tell n t ∷ []) b c → Makes (tells (n + 1) m t) a c
-  one_reported other reported =
+  pub one_received : n ≢ m → Makes (Tell n t ∷ []) b c → Makes (tells (n + 1) m t) a c
+  one_received other told =
       rw add-one (subst (λ (own : Bool). Makes (tells n m t ++ (if own then [] else Tell n t ∷ [])) a c)
       (sym (ne_eqb n m other))
-      (both_made a b c (tells n m t) (Tell n t ∷ []) before reported))
+      (both_made a b c (tells n m t) (Tell n t ∷ []) before told))
 
   -- the member itself
   pub itself_passed : n ≡ m → Makes (tells (n + 1) m t) a b
@@ -300,9 +300,9 @@ round_free : (members m : ℕ) (r : Round) → sum_by spends (round_calls member
 round_free members m r =
     omega (
       arith,
-      reports_free members m r.reported,
+      reports_free members m r.told,
       some_free m r.heard,
-      sum_by-append spends (tells members m r.reported) (hears_some m r.heard),
+      sum_by-append spends (tells members m r.told) (hears_some m r.heard),
     )
 
 rounds_free : (members m : ℕ) (rs : List Round) → sum_by spends (rounds_calls members m rs) ≡ 0

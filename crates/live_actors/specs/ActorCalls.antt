@@ -12,10 +12,10 @@ use Rattle.live_actors.specs.declared.actor.Actor.TheVariants as actor
 -- A call that an actor makes, with its answer. Sync Interests are seen as their octets.
 pub data Call : Type 0 where
   Pass : (member actor : ℕ) → Call
-  Publish : (member : ℕ) (reported : Option (List ℕ)) → Call
-  Tell : (other : ℕ) (reported : List ℕ) → Call
-  Take : (reported : Option (List ℕ)) → Call
-  Hear : (member : ℕ) (reported : List ℕ) (replied : LiveReply) → Call
+  Publish : (member : ℕ) (told : Option (List ℕ)) → Call
+  Tell : (other : ℕ) (told : List ℕ) → Call
+  Take : (told : Option (List ℕ)) → Call
+  Hear : (member : ℕ) (told : List ℕ) (replied : LiveReply) → Call
   Claim : (member f : ℕ) (claimed : LiveReply) → Call
   Lend : (publisher : ℕ) (part : Part) (lent : Option Loan) → Call
   Accept : (member f : ℕ) (lent : Loan) (ended : LiveReply) → Call
@@ -32,12 +32,12 @@ pub record Progress : Type 0 where
 -- The call that finds nothing to publish takes a ticket.
 abbrev pub last_look : Option (List ℕ) → ℕ
 last_look None = 1
-last_look (Some reported) = 0
+last_look (Some told) = 0
 
 -- So does each claim, whatever is replied.
 abbrev pub spends : Call → ℕ
 spends (Claim member f claimed) = 1
-spends (Publish member reported) = last_look reported
+spends (Publish member told) = last_look told
 spends _ = 0
 
 -- These calls were made, in this order, and no others.
@@ -101,19 +101,19 @@ Fetches member f n old new =
 
 -- A sync Interest goes to all members below n but this one, in order.
 abbrev pub tells : ℕ → ℕ → List ℕ → List Call
-tells zero member reported = []
-tells (suc n) member reported = tells n member reported ++ (if n == member then [] else Tell n reported ∷ [])
+tells zero member told = []
+tells (suc n) member told = tells n member told ++ (if n == member then [] else Tell n told ∷ [])
 
 -- A sync Interest that was taken out of the inbox, and what the member replied when it heard it.
 pub record Heard : Type 0 where
-  pub reported : List ℕ
+  pub told : List ℕ
   pub replied : LiveReply
 
 -- These were taken out of the inbox, and each was heard after the gate.
 abbrev pub hears : ℕ → List Heard → List Call
 hears member [] = []
 hears member (heard ∷ later) =
-    Take (Some heard.reported) ∷ Pass member 0 ∷ Hear member heard.reported heard.replied ∷ hears member later
+    Take (Some heard.told) ∷ Pass member 0 ∷ Hear member heard.told heard.replied ∷ hears member later
 
 -- How many sync Interests a member hears after each publication at most.
 abbrev pub heard_at_once : ℕ
@@ -131,13 +131,13 @@ HearsSome member old new =
 
 -- A publication: its sync Interest, and what the member heard after it.
 pub record Round : Type 0 where
-  pub reported : List ℕ
+  pub told : List ℕ
   pub heard : List Heard
 
 -- The gate, the publication, its sync Interest to all others, and what is heard.
 abbrev pub round_calls : ℕ → ℕ → Round → List Call
 round_calls members member round =
-    (Pass member 0 ∷ Publish member (Some round.reported) ∷ tells members member round.reported)
+    (Pass member 0 ∷ Publish member (Some round.told) ∷ tells members member round.told)
     ++ hears_some member round.heard
 
 -- The calls of these publications, in order.

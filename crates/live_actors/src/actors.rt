@@ -74,10 +74,10 @@ fn publish_next<L: Lists, P: Places<L>>(
     ensures { IfOk result (λ more. PublishesNext member more (P.progress places.old) (P.progress places.new)) }
 {
     places.pass(member, PUBLISHER)?;
-    let Some(reported) = places.publish_next(member)? else {
+    let Some(told) = places.publish_next(member)? else {
         return Ok(false);
     };
-    tell_others(places, members, member, &reported)?;
+    tell_others(places, members, member, &told)?;
     hear_some(places, member)?;
     Ok(true)
 }
@@ -87,14 +87,14 @@ fn tell_others<L: Lists, P: Places<L>>(
     places: &mut P,
     members: u32,
     member: u32,
-    reported: &Told<L>,
+    told: &Told<L>,
 ) -> Result<(), AllocError>
     requires { members ≡ (P.progress places.old).senders }
-    ensures { OnOk result (Makes (tells members member reported.now) (P.progress places.old) (P.progress places.new)) }
+    ensures { OnOk result (Makes (tells members member told.now) (P.progress places.old) (P.progress places.new)) }
 {
     for other in 0..members {
         if other != member {
-            places.tell(other, reported)?;
+            places.tell(other, told)?;
         }
     }
     Ok(())
@@ -106,11 +106,11 @@ fn hear_some<L: Lists, P: Places<L>>(places: &mut P, member: u32) -> Result<(), 
     ensures { OnOk result (HearsSome member (P.progress places.old) (P.progress places.new)) }
 {
     for _heard in 0..HEARD_AT_ONCE {
-        let Some(reported) = places.take()? else {
+        let Some(told) = places.take()? else {
             return Ok(());
         };
         places.pass(member, PUBLISHER)?;
-        places.hear(member, &reported)?;
+        places.hear(member, &told)?;
     }
     Ok(())
 }

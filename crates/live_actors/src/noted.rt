@@ -12,18 +12,18 @@ pub enum Noted<L: Lists> {
     },
     Publish {
         member: u32,
-        reported: Snapshot<Option<Told<L>>>,
+        told: Snapshot<Option<Told<L>>>,
     },
     Tell {
         other: u32,
-        reported: Snapshot<Told<L>>,
+        told: Snapshot<Told<L>>,
     },
     Take {
-        reported: Snapshot<Option<Told<L>>>,
+        told: Snapshot<Option<Told<L>>>,
     },
     Hear {
         member: u32,
-        reported: Snapshot<Told<L>>,
+        told: Snapshot<Told<L>>,
         replied: LiveReply,
     },
     Claim {

@@ -26,18 +26,18 @@ pub trait Places<L: Lists> {
         ensures { IfOk result (λ r. Makes (Call.Publish member r ∷ []) (progress self.old) (progress self.new)) };
 
     /// Puts a copy of a sync Interest into the inbox of another member. A full inbox loses it.
-    fn tell(&mut self, other: u32, reported: &Told<L>) -> Result<(), AllocError>
+    fn tell(&mut self, other: u32, told: &Told<L>) -> Result<(), AllocError>
         requires { other < (progress self.old).senders }
-        ensures { OnOk result (Makes (Call.Tell other reported.now ∷ []) (progress self.old) (progress self.new)) };
+        ensures { OnOk result (Makes (Call.Tell other told.now ∷ []) (progress self.old) (progress self.new)) };
 
     /// The first sync Interest in the actor's own inbox.
     fn take(&mut self) -> Result<Option<Told<L>>, AllocError>
         ensures { IfOk result (λ r. Makes (Call.Take r ∷ []) (progress self.old) (progress self.new)) };
 
     /// The member hears a sync Interest.
-    fn hear(&mut self, member: u32, reported: &Told<L>) -> Result<LiveReply, AllocError>
+    fn hear(&mut self, member: u32, told: &Told<L>) -> Result<LiveReply, AllocError>
         requires { member < (progress self.old).members }
-        ensures { IfOk result (λ r. Makes (Call.Hear member reported.now r ∷ []) (progress self.old)
+        ensures { IfOk result (λ r. Makes (Call.Hear member told.now r ∷ []) (progress self.old)
             (progress self.new)) };
 
     /// A fetcher of the member, 1 or 2, claims a part. Each claim takes a ticket.

@@ -5,7 +5,7 @@ use Rattle.std.specs.Prelude.{Result, Ok, Err, IfOk}
 use Rattle.std.specs.List.{All}
 use Rattle.std.proofs.lemmas.List.{get_or-map, length-map}
 use Rattle.std.proofs.lemmas.List.Sums.{sum_by-append}
-use Rattle.repo_member.specs.MemberState.{member_opening}
+use Rattle.repo_member.specs.MemberState.{initial_member}
 use Rattle.live_member.specs.declared.event.LiveEntry.{LiveEntry}
 use Rattle.live_member.specs.Meanings.{Meaning}
 use Rattle.live_member.specs.Lives.{Living, living, IsLive}
@@ -50,10 +50,10 @@ module _ (t : Meaning) (turns : ℕ) (lives : List Living) (numbers : List ℕ)
       let longer = ap (λ (ns : List ℕ). length ns) same in omega (arith, one, two, long, longer) in
       let there : k < length lives = omega (arith, less, wide) in
       let number : (at lives k).state.number ≡ r.member.number =
-      sym (get_or-map (λ (l : Living). l.state.number) lives k (living (member_opening 0 0 0 0) [] []) 0 there)
+      sym (get_or-map (λ (l : Living). l.state.number) lives k (living (initial_member 0 0 0 0) [] []) 0 there)
       ∙ ap (λ (ns : List ℕ). get_or ns k 0) (placed ∙ sym same)
       ∙ get_or-map (λ (r : Ran). r.member.number) rans k d 0 less in
-      has_run t turns (at lives k) r (outs k (living (member_opening 0 0 0 0) [] []) there) number
+      has_run t turns (at lives k) r (outs k (living (initial_member 0 0 0 0) [] []) there) number
       (subst (Continues (at lives k).journal) (get_or-map (λ (r : Ran). r.journal.items) rans k d [] less)
       (continued k))
 

@@ -24,12 +24,12 @@ use Rattle.live_member.specs.LockedCalls.{IsEntered, StepsBy}
 use Rattle.live_actors.specs.ActorCalls.{IsOfMember}
 use Rattle.live_settle.proofs.Turning.{in_range}
 
-reported_part : (c d : Option Part) (part : Part)
+received_part : (c d : Option Part) (part : Part)
     → (if is_some c then reply.Refused else live_reply (Reply.Claimed d)) ≡ reply.Claimed part
     → (c ≡ None) × (d ≡ Some part)
-reported_part (Some p) d part is = absurd cc
-reported_part None None part is = absurd cc
-reported_part None (Some p) part is = (refl, cc)
+received_part (Some p) d part is = absurd cc
+received_part None None part is = absurd cc
+received_part None (Some p) part is = (refl, cc)
 
 module _ (t : Meaning) (most : ℕ) (old new : Living) (r : LiveReply) (f : ℕ) (part : Part) (fetcher : IsFetcher f)
     (steps : StepsBy t most (event.Claim f) old new r) (its : r ≡ reply.Claimed part) where
@@ -52,7 +52,7 @@ module _ (t : Meaning) (most : ℕ) (old new : Living) (r : LiveReply) (f : ℕ)
   w = world_at t j m
 
   claims_it : (claim_at w j f ≡ None) × (to_claim w j ≡ Some part)
-  claims_it = reported_part (claim_at w j f) (to_claim w j) part (sym entered.replied)
+  claims_it = received_part (claim_at w j f) (to_claim w j) part (sym entered.replied)
 
   wide : length w.members ≡ length t.lists
   wide =
@@ -99,8 +99,8 @@ module _ (t : Meaning) (most : ℕ) (old new : Living) (r : LiveReply) (f : ℕ)
       let ls = logs_at t new.state.number new.state.log in
       let sound = is.2.consistent.sound in
       let known = (wanted_parts ls (in_group new.state) part (sound.claimed (f - 1) part its_claim)).known in
-      let most_reported = sound.known part.publisher in
-      let less = in_range ls part.publisher part.seq known.from_one (omega (arith, known.to_known, most_reported)) in
+      let most_received = sound.known part.publisher in
+      let less = in_range ls part.publisher part.seq known.from_one (omega (arith, known.to_known, most_received)) in
       omega (arith, less, wide_logs)
 
 -- what is claimed, whatever is replied

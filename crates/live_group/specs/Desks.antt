@@ -23,14 +23,14 @@ pub record IsDesk (turns : ℕ) (l : Living) (first second look spent : ℕ) : T
   pub tickets : spent + first + second + look ≡ tickets_each turns
   pub firsts : HasRoom l → claims_by 1 l.journal + first ≡ turns
   pub seconds : HasRoom l → claims_by 2 l.journal + second ≡ turns
-  pub published : HasRoom l → look ≡ 0 → l.coming ≡ []
+  pub published : HasRoom l → look ≡ 0 → l.unpublished ≡ []
 
 -- All that a member's own actors do was done with it: its journal has so many claims of each of its two fetchers, and
 -- its whole list is published.
 pub record HasActed (turns : ℕ) (l : Living) : Type 0 where
   pub first : claims_by 1 l.journal ≡ turns
   pub second : claims_by 2 l.journal ≡ turns
-  pub published : l.coming ≡ []
+  pub published : l.unpublished ≡ []
 
 -- Where no ticket of a member's actors is left, they have done all of this, as long as the journal had room.
 abbrev pub HasEnded : ℕ → Living → ℕ → Type 0

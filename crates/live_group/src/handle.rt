@@ -86,42 +86,42 @@ impl<'a, L: Run, R: Wait, G: Gate> Places<L> for Handle<'a, L, R, G> {
     }
 
     fn publish_next(&mut self, member: u32) -> Result<Option<Told<L>>, AllocError> {
-        let reported = self.seats[member as usize]
+        let told = self.seats[member as usize]
             .lock()
             .lock(self.rt)
             .publish_next(self.g, &mut self.tickets)?;
         self.calls.push(Snapshot::of(&Noted::Publish {
             member,
-            reported: Snapshot::of(&reported),
+            told: Snapshot::of(&told),
         }))?;
-        Ok(reported)
+        Ok(told)
     }
 
-    fn tell(&mut self, other: u32, reported: &Told<L>) -> Result<(), AllocError> {
-        self.ends.senders[other as usize].tell(self.rt, reported.copy(self.alloc)?);
+    fn tell(&mut self, other: u32, told: &Told<L>) -> Result<(), AllocError> {
+        self.ends.senders[other as usize].tell(self.rt, told.copy(self.alloc)?);
         self.calls.push(Snapshot::of(&Noted::Tell {
             other,
-            reported: Snapshot::of(reported),
+            told: Snapshot::of(told),
         }))?;
         Ok(())
     }
 
     fn take(&mut self) -> Result<Option<Told<L>>, AllocError> {
-        let reported = self.ends.next(self.rt);
+        let told = self.ends.next(self.rt);
         self.calls.push(Snapshot::of(&Noted::Take {
-            reported: Snapshot::of(&reported),
+            told: Snapshot::of(&told),
         }))?;
-        Ok(reported)
+        Ok(told)
     }
 
-    fn hear(&mut self, member: u32, reported: &Told<L>) -> Result<LiveReply, AllocError> {
+    fn hear(&mut self, member: u32, told: &Told<L>) -> Result<LiveReply, AllocError> {
         let replied = self.seats[member as usize]
             .lock()
             .lock(self.rt)
-            .hear(self.g, reported)?;
+            .hear(self.g, told)?;
         self.calls.push(Snapshot::of(&Noted::Hear {
             member,
-            reported: Snapshot::of(reported),
+            told: Snapshot::of(told),
             replied,
         }))?;
         Ok(replied)

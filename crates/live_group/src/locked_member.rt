@@ -50,7 +50,7 @@ impl<L: Run> LockedMember<L> {
         requires part { 0 < tickets.old.parts }
         requires ticket { 0 < tickets.old.amount }
         ensures parts { tickets.new.parts ≡ tickets.old.parts }
-        ensures spent { IfOk result (λ reported. tickets.new.amount + last_look reported ≡ tickets.old.amount) }
+        ensures spent { IfOk result (λ told. tickets.new.amount + last_look told ≡ tickets.old.amount) }
     {
         if self.look == 0 {
             return Err(AllocError);
@@ -61,19 +61,19 @@ impl<L: Run> LockedMember<L> {
             spent,
             ..
         } = self;
-        if let NextTold::Told(reported) = live.publish_next(g)? {
-            return Ok(Some(reported));
+        if let NextTold::Told(told) = live.publish_next(g)? {
+            return Ok(Some(told));
         }
         tickets.transfer(spent, 1);
         *look -= 1;
         Ok(None)
     }
 
-    pub fn hear(&mut self, g: &Group, reported: &Told<L>) -> Result<LiveReply, AllocError>
+    pub fn hear(&mut self, g: &Group, told: &Told<L>) -> Result<LiveReply, AllocError>
         requires { g.now ≡ L.meaning.group }
     {
         let LockedMember { live, .. } = self;
-        live.hear(g, reported)
+        live.hear(g, told)
     }
 
     /// A fetcher claims a part, and spends a ticket. It has no more claims than turns, so no run asks for one more.

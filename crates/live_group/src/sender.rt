@@ -41,10 +41,10 @@ impl<L: Lists> Sender<L> {
     }
 
     /// Tells the member. Where its inbox is full it isn't informed.
-    pub fn tell<R: Wait>(&mut self, rt: &R, reported: Told<L>)
-        ensures { Tells reported self.old self.new }
+    pub fn tell<R: Wait>(&mut self, rt: &R, told: Told<L>)
+        ensures { Tells told self.old self.new }
     {
-        let _lost = self.inbox.put(rt, &mut self.port, reported);
+        let _lost = self.inbox.put(rt, &mut self.port, told);
     }
 }
 
@@ -78,7 +78,7 @@ impl<L: Lists> Receiver<L> {
     /// What came first of what wasn't taken yet, if anything did.
     pub fn next<R: Wait>(&mut self, rt: &R) -> Option<Told<L>>
         ensures inbox { self.new.inbox ≡ self.old.inbox }
-        ensures reported { IfSome result (λ reported. HasTaken self.old.mouth reported self.new.mouth) }
+        ensures told { IfSome result (λ told. HasTaken self.old.mouth told self.new.mouth) }
         ensures same { IfNone result (self.new ≡ self.old) }
         ensures empty { IfNone result (Held 0 (HeldBefore self.old.mouth)) }
     {

@@ -28,9 +28,9 @@ module _ {T : Type 0} where
 
   port_after_deal : (h : History T) (count place j : ℕ) (u : Knowledge T) → (0 < h.dealt → h.count ≡ count)
       → IsPort h j u → IsPort (after_deal count place h) j u
-  port_after_deal h count place j u reported one = record {
+  port_after_deal h count place j u ports_known one = record {
     there = omega (arith, one.there);
-    ports = one.ports ∙ reported (omega (arith, one.there));
+    ports = one.ports ∙ ports_known (omega (arith, one.there));
     only = other_place h count place u.port (λ is. omega (arith, one.there, is)) ∙ one.only;
     out = one.out;
     put = one.put;
@@ -50,7 +50,7 @@ module _ {T : Type 0} where
       → dealt < count → (0 < dealt → ports ≡ count)
       → Forks Delivers place (mouth_knows ports dealt taken waiting returned)
       (mouth_knows count (dealt + 1) taken waiting returned) (port_knows dealt count [])
-  deals count place ports dealt taken waiting returned few reported items views d at =
+  deals count place ports dealt taken waiting returned few ports_known items views d at =
       let h = d.history in
       let l : Knowledge T = mouth_knows count (dealt + 1) taken waiting returned in
       let r : Knowledge T = port_knows dealt count [] in
@@ -58,11 +58,11 @@ module _ {T : Type 0} where
       let mine : IsMouth h items place (mouth_knows ports dealt taken waiting returned) =
       d.mouth place (mouth_knows ports dealt taken waiting returned) at refl in
       let h' : History T = after_deal count (length vs) h in
-      let reported' : 0 < h.dealt → h.count ≡ count = λ some. sym mine.ports
-      ∙ reported (omega (arith, some, mine.dealt)) in
+      let ports_known' : 0 < h.dealt → h.count ≡ count = λ some. sym mine.ports
+      ∙ ports_known (omega (arith, some, mine.dealt)) in
       let ports' : (j : ℕ) (u : Knowledge T) → get_elem? vs j ≡ some u → u.puts ≡ true → IsPort h' j u =
       each_set (λ j u. u.puts ≡ true → IsPort h' j u) views place l (λ s. absurd (true≢false (sym s)))
-      (λ j u apart e s. port_after_deal h count (length vs) j u reported' (d.ports j u e s)) in
+      (λ j u apart e s. port_after_deal h count (length vs) j u ports_known' (d.ports j u e s)) in
       let mouth' : (j : ℕ) (u : Knowledge T) → get_elem? vs j ≡ some u → u.takes ≡ true → IsMouth h' items j u =
       each_set (λ j u. u.takes ≡ true → IsMouth h' items j u) views place l
       (λ s. record {
@@ -178,7 +178,7 @@ module _ {T : Type 0} where
   deals_at count place dealt v few is =
       subst (λ (u : Knowledge T). Forks Delivers place u
       (mouth_knows count (u.dealt + 1) u.taken u.waiting u.returned) (port_knows u.dealt count [])) (sym is.mouth)
-      (deals count place v.ports dealt [] [] [] few is.reported)
+      (deals count place v.ports dealt [] [] [] few is.ports_known)
 
   pub returns_at : (place other number : ℕ) (v w : Knowledge T) (returned : List (Returned T)) → IsClosing returned v
       → w ≡ port_knows number w.ports w.put

@@ -64,7 +64,7 @@ module _ {T : Type 0} where
   -- It is the mouth's, before it takes, and so many of the ports were dealt out.
   pub record IsDealing (ports dealt : ℕ) (v : Knowledge T) : Type 0 where
     pub mouth : v ≡ mouth_knows v.ports dealt [] [] []
-    pub reported : 0 < dealt → v.ports ≡ ports
+    pub ports_known : 0 < dealt → v.ports ≡ ports
 
   -- The port has put one value more.
   abbrev pub has_put : T → Knowledge T → Knowledge T

@@ -13,10 +13,10 @@ use Rattle.repo_member.specs.Verdicts.{accept_verdict}
 use Rattle.repo_member.proofs.PublicLaws.{feed_is_event, plans_alike, consistent_stores, wants_published}
 use Rattle.repo_member.proofs.PublicLaws.{takes_the_consistent}
 use Rattle.repo_member.proofs.PublicLaws.{accepts_consistent}
-use Rattle.group_model.specs.Events.Came.{Nothing, Its}
+use Rattle.group_model.specs.Events.Response.{Nothing, Its}
 use Rattle.group_model.specs.World.{World, member}
 use Rattle.group_model.specs.Replies.{Reply}
-use Rattle.group_model.specs.Steps.{claim_at, passes_checks, came_as, after_came}
+use Rattle.group_model.specs.Steps.{claim_at, passes_checks, response_read, after_response}
 use Rattle.live_member.specs.declared.event.LiveEvent.TheVariants as event
 use Rattle.live_member.specs.declared.event.LiveReply.TheVariants as reply
 use Rattle.live_member.specs.declared.event.LiveEntry.{LiveEntry}
@@ -49,8 +49,8 @@ fed_reply : (b : Bool) → live_reply (Reply.Fed b) ≡ (if b then reply.Kept el
 fed_reply true = refl
 fed_reply false = refl
 
-module _ (t : Meaning) (most : ℕ) (a : MemberState) (journal : List LiveEntry) (coming : List NamedContents)
-    (f : ℕ) (part : Part) (octets : List ℕ) (live : IsLive t most (living a journal coming))
+module _ (t : Meaning) (most : ℕ) (a : MemberState) (journal : List LiveEntry) (unpublished : List NamedContents)
+    (f : ℕ) (part : Part) (octets : List ℕ) (live : IsLive t most (living a journal unpublished))
     (lent : published_packet t.group (whole_logs t) part ≡ Some octets) where
   abbrev w : World
   w = world_at t a.number (in_group a)
@@ -69,7 +69,7 @@ module _ (t : Meaning) (most : ℕ) (a : MemberState) (journal : List LiveEntry)
       subst (λ (p : PlanState). is_wanted p part ≡ true)
       (sym (plans_alike t.group ls a live.logs (consistent_stores t.group ls a live.consistent)))
       (live.consistent.sound.claimed (f - 1) part is) in
-      packet_alike t a.number a.log coming live.list (number_there t a live.logs live.consistent) part
+      packet_alike t a.number a.log unpublished live.list (number_there t a live.logs live.consistent) part
       (wants_published t.group ls a part live.logs live.consistent wanted).there ∙ lent
 
   pub passes : claim ≡ Some part → accept_verdict t.group a f octets ≡ Ok part
@@ -94,7 +94,8 @@ module _ (t : Meaning) (most : ℕ) (a : MemberState) (journal : List LiveEntry)
   comes : (c : Option Part) → claim ≡ c
       → after t a.number (in_group a) (event.Accept f part) ≡ in_group (changed_by c)
   comes None is =
-      ap (λ (c : Option Part). member (after_came (environment t) w a.number f c (came_as w (fed part) c)) a.number)
+      ap (λ (c : Option Part).
+      member (after_response (environment t) w a.number f c (response_read w (fed part) c)) a.number)
       (claim_so None is)
       ∙ member_is.same
   comes (Some u) is =
@@ -106,10 +107,10 @@ module _ (t : Meaning) (most : ℕ) (a : MemberState) (journal : List LiveEntry)
   answers : (c : Option Part) → claim ≡ c
       → (if is_claim part c then reply.Kept else reply.Refused) ≡ reply_of t a.number (in_group a) (event.Accept f part)
   answers c is = sym (
-      ap (λ (d : Option Part). live_reply (Reply.Fed (passes_checks (came_as w (fed part) d)))) (claim_so c is)
+      ap (λ (d : Option Part). live_reply (Reply.Fed (passes_checks (response_read w (fed part) d)))) (claim_so c is)
       ∙ go c) where
         go : (d : Option Part)
-            → live_reply (Reply.Fed (passes_checks (came_as w (fed part) d)))
+            → live_reply (Reply.Fed (passes_checks (response_read w (fed part) d)))
             ≡ (if is_claim part d then reply.Kept else reply.Refused)
         go None = refl
         go (Some u) =

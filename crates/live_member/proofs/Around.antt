@@ -7,7 +7,7 @@ use Rattle.std.proofs.lemmas.List.{map-set, get_or-map, get_or-set_same, get_or-
 use Rattle.std.proofs.lemmas.List.{length-append}
 use Rattle.repo_object.specs.Objects.{NamedContents, Post, shape_in}
 use Rattle.repo_plan.specs.declared.part.Part.{Part}
-use Rattle.repo_plan.specs.Parts.{Pair, pair_of, parts_after}
+use Rattle.repo_plan.specs.Parts.{Pair, pair_of, last_part}
 use Rattle.repo_object.specs.Publication.{packet_at}
 use Rattle.repo_member.specs.Groups.{publisher_at}
 use Rattle.repo_member.specs.MemberState.{MemberState}
@@ -69,12 +69,12 @@ module _ (t : Meaning) (a : MemberState) (own : AreLogs t.group (logs_at t a.num
 
 -- ---- what a member has published, and its whole list
 
-module _ (t : Meaning) (j : ℕ) (log : List Post) (coming : List NamedContents)
-    (list : log ++ as_posts coming ≡ as_posts (objects_of t j)) (there : j < length t.lists) where
+module _ (t : Meaning) (j : ℕ) (log : List Post) (unpublished : List NamedContents)
+    (list : log ++ as_posts unpublished ≡ as_posts (objects_of t j)) (there : j < length t.lists) where
   pub log_at : get_or (logs_at t j log) j [] ≡ log
   log_at = get_or-set_same (whole_logs t) j log [] (omega (arith, there, width_whole t))
 
-  pub whole_at : get_or (whole_logs t) j [] ≡ log ++ as_posts coming
+  pub whole_at : get_or (whole_logs t) j [] ≡ log ++ as_posts unpublished
   whole_at = get_or-map as_posts t.lists j [] [] there ∙ sym list
 
   own_last : last_of (logs_at t j log) j ≡ length log
@@ -82,8 +82,8 @@ module _ (t : Meaning) (j : ℕ) (log : List Post) (coming : List NamedContents)
 
   own_less : length log ≤ last_of (whole_logs t) j
   own_less =
-      let whole : last_of (whole_logs t) j ≡ length (log ++ as_posts coming) = ap length whole_at in
-      omega (arith, whole, length-append log (as_posts coming))
+      let whole : last_of (whole_logs t) j ≡ length (log ++ as_posts unpublished) = ap length whole_at in
+      omega (arith, whole, length-append log (as_posts unpublished))
 
   other_last : (p : ℕ) → p ≢ j → last_of (logs_at t j log) p ≡ last_of (whole_logs t) p
   other_last p other = ap length (get_or-set_other (whole_logs t) j p log [] other)
@@ -107,7 +107,8 @@ module _ (t : Meaning) (j : ℕ) (log : List Post) (coming : List NamedContents)
         ap (λ (q : ℕ). last_of (logs_at t j log) q) same ∙ own_last in
         ap (λ (q : ℕ). get_or (get_or (logs_at t j log) q []) (pair.1 - 1) no_post) same
         ∙ ap (λ (l : List Post). get_or l (pair.1 - 1) no_post) log_at
-        ∙ sym (get_or-append log (as_posts coming) no_post (pair.1 - 1) (omega (arith, here, is.from_one, is.to_last)))
+        ∙ sym (get_or-append log (as_posts unpublished) no_post (pair.1 - 1)
+        (omega (arith, here, is.from_one, is.to_last)))
         ∙ ap (λ (l : List Post). get_or l (pair.1 - 1) no_post) (sym whole_at)
         ∙ ap (λ (q : ℕ). get_or (get_or (whole_logs t) q []) (pair.1 - 1) no_post) (sym same)
     | inr other ↦
@@ -129,7 +130,7 @@ module _ (t : Meaning) (j : ℕ) (log : List Post) (coming : List NamedContents)
           from_one = is.there.from_one;
           to_last = omega (arith, last, at_most_whole part.publisher);
         };
-        counted = subst (λ (post : Post). part.part ≤ parts_after (shape_in post)) (post_alike (pair_of part) is.there)
+        counted = subst (λ (post : Post). part.part ≤ last_part (shape_in post)) (post_alike (pair_of part) is.there)
             is.counted;
       }
 
@@ -152,8 +153,8 @@ module _ (t : Meaning) (j : ℕ) (log : List Post) (coming : List NamedContents)
       | inl same ↦
           let here : last_of (logs_at t j log) p ≡ length log =
           ap (λ (q : ℕ). last_of (logs_at t j log) q) same ∙ own_last in
-          let reported : get_or v p 0 ≡ get_or v j 0 = ap (λ (q : ℕ). get_or v q 0) same in
-          omega (arith, here, reported, few)
+          let told : get_or v p 0 ≡ get_or v j 0 = ap (λ (q : ℕ). get_or v q 0) same in
+          omega (arith, here, told, few)
       | inr other ↦ omega (arith, other_last p other, is.no_more p)
     ];
   }

@@ -21,9 +21,9 @@ use Rattle.live_member.specs.Calls.{claim_change_of, claim_reply_of, part_reply,
 use Rattle.live_member.proofs.Around.{member_around, number_there, is_member, is_consistent_in}
 use Rattle.live_member.proofs.Journals.{IsAfter, IsQuiet}
 
-reported_of_part : (c : Option Part) → live_reply (Reply.Claimed c) ≡ part_reply c
-reported_of_part None = refl
-reported_of_part (Some t) = refl
+received_of_part : (c : Option Part) → live_reply (Reply.Claimed c) ≡ part_reply c
+received_of_part None = refl
+received_of_part (Some t) = refl
 
 module _ (t : Meaning) (a : MemberState) (f : ℕ) (own : AreLogs t.group (logs_at t a.number a.log))
     (consistent : IsConsistentMember t.group (logs_at t a.number a.log) a) where
@@ -46,7 +46,7 @@ module _ (t : Meaning) (a : MemberState) (f : ℕ) (own : AreLogs t.group (logs_
             else live_reply (reply_to (environment t) w (Event.Claim a.number f))) idle
             ∙ ap (λ (ps : List Part). live_reply (Reply.Claimed (first ps)))
             (open_parts_alike w a.number t.group a m consistent_in)
-            ∙ reported_of_part (first (unclaimed (member_plan a))));
+            ∙ received_of_part (first (unclaimed (member_plan a))));
         changed = sym (ap (λ (c : Option Part). if is_some c then in_group a
             else member (after_event (environment t) w (Event.Claim a.number f)) a.number) idle
             ∙ claim_is_event (environment t) w a.number f t.group a m consistent_in is);

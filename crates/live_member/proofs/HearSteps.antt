@@ -5,7 +5,7 @@ use Rattle.std.proofs.Common.{refl, ap, sym, ◌∙◌, subst, arith}
 use Rattle.std.specs.Prelude.{nat_lt, slice_index}
 use Rattle.std.proofs.lemmas.Bool.{ltb-false}
 use Rattle.svs_vector.specs.Vectors.{covers}
-use Rattle.svs_sync.specs.KeptVector.{Keeper, steady_kept, hears_kept}
+use Rattle.svs_sync.specs.SyncStates.{SyncState, steady_joined, hears_joined}
 use Rattle.svs_sync.specs.Suppression.{suppression, mode_of}
 use Rattle.svs_sync.specs.declared.sync_refusal.SyncRefusal.{SyncRefusal}
 use Rattle.repo_object.specs.Objects.{NamedContents}
@@ -14,13 +14,13 @@ use Rattle.repo_member.specs.declared.refusals.HearRefusal.TheVariants.{OwnNumbe
 use Rattle.repo_member.specs.MemberState.{MemberState, member_hears}
 use Rattle.repo_member.specs.InGroup.{in_group}
 use Rattle.repo_member.specs.InEvents.{IsMemberOf}
-use Rattle.repo_member.specs.Verdicts.{hear_verdict, reported_verdict, group_verdict}
-use Rattle.repo_member.proofs.PublicLaws.{hear_is_event, syncs_are_reported, hears_consistent}
+use Rattle.repo_member.specs.Verdicts.{hear_verdict, received_verdict, group_verdict}
+use Rattle.repo_member.proofs.PublicLaws.{hear_is_event, syncs_are_received, hears_consistent}
 use Rattle.group_model.specs.Events.{SyncInterest, Event}
 use Rattle.group_model.specs.Member.{Member}
 use Rattle.group_model.specs.World.{World, member}
 use Rattle.group_model.specs.Replies.{heard_reply}
-use Rattle.group_model.specs.Steps.{reports_too_much, after_deliver, mode_at, after_event, reply_to}
+use Rattle.group_model.specs.Steps.{exceeds_log, after_deliver, mode_at, after_event, reply_to}
 use Rattle.live_member.specs.declared.event.LiveEvent.TheVariants as event
 use Rattle.live_member.specs.declared.event.LiveEntry.{LiveEntry}
 use Rattle.live_member.specs.Meanings.{Meaning, whole_logs, logs_at, world_at, environment}
@@ -31,23 +31,23 @@ use Rattle.live_member.specs.Calls.{hear_change, hear_reply}
 use Rattle.live_member.proofs.Around.{width_whole, number_there, is_member, vector_here}
 use Rattle.live_member.proofs.Journals.{IsAfter, IsQuiet}
 
-one_draw : (reported known : List ℕ) (draw : ℕ) (k : Keeper) (heard : Option (List ℕ))
-    → (hears_kept 0 reported known draw k heard).draws ≤ k.draws + 1
-one_draw reported known draw k None = go (covers reported known) where
+one_draw : (told known : List ℕ) (draw : ℕ) (k : SyncState) (heard : Option (List ℕ))
+    → (hears_joined 0 told known draw k heard).draws ≤ k.draws + 1
+one_draw told known draw k None = go (covers told known) where
   go : (b : Bool)
-      → (cond b (steady_kept 0 draw k)
-      (record k { heard = Some reported; deadline = 0 + suppression draw; draws = k.draws + 1 })).draws
+      → (cond b (steady_joined 0 draw k)
+      (record k { heard = Some told; deadline = 0 + suppression draw; draws = k.draws + 1 })).draws
       ≤ k.draws + 1
   go true = omega arith
   go false = omega arith
-one_draw reported known draw k (Some v) = omega arith
+one_draw told known draw k (Some v) = omega arith
 
 -- what the verdict is on a vector, by whether it reports more of the member than that has published
 abbrev verdict_by : Bool → MemberState → List ℕ → Result (List ℕ) HearRefusal
 verdict_by ahead a vector = cond ahead (Err (OwnNumberAhead (length a.log) (slice_index vector a.number))) (Ok vector)
 
-module _ (t : Meaning) (most : ℕ) (a : MemberState) (journal : List LiveEntry) (coming : List NamedContents)
-    (octets : List ℕ) (draw : ℕ) (live : IsLive t most (living a journal coming)) (tell : IsReport t octets)
+module _ (t : Meaning) (most : ℕ) (a : MemberState) (journal : List LiveEntry) (unpublished : List NamedContents)
+    (octets : List ℕ) (draw : ℕ) (live : IsLive t most (living a journal unpublished)) (tell : IsReport t octets)
     (value : draw ≡ slice_index t.draws a.number) where
   abbrev w : World
   w = world_at t a.number (in_group a)
@@ -63,16 +63,16 @@ module _ (t : Meaning) (most : ℕ) (a : MemberState) (journal : List LiveEntry)
 
   is_reported : group_verdict t.group octets ≡ Ok (tell.sender, tell.vector)
   is_reported =
-      ap (group_verdict t.group) tell.reported
-      ∙ syncs_are_reported t.group (whole_logs t) tell.sender tell.vector live.within.logs
+      ap (group_verdict t.group) tell.told
+      ∙ syncs_are_received t.group (whole_logs t) tell.sender tell.vector live.within.logs
       (omega (arith, tell.there, live.within.logs.width, width_whole t)) tell.consistent
 
   pub verdict_is : hear_verdict t.group a octets ≡ verdict_by (nat_lt (length a.log)
       (slice_index tell.vector a.number)) a tell.vector
-  verdict_is = ap (reported_verdict a) is_reported
+  verdict_is = ap (received_verdict a) is_reported
 
   too_much : (b : Bool) → nat_lt (length a.log) (slice_index tell.vector a.number) ≡ b
-      → reports_too_much w a.number sync ≡ b
+      → exceeds_log w a.number sync ≡ b
   too_much b is = ap (λ (m : Member). nat_lt (length m.log) (slice_index tell.vector a.number)) member_is.same ∙ is
 
   -- the member afterwards, where octets are read so
@@ -124,7 +124,7 @@ module _ (t : Meaning) (most : ℕ) (a : MemberState) (journal : List LiveEntry)
         hidden = refl;
         draws = one_draw tell.vector a.known draw a.machine a.machine.heard;
         consistent = hears_consistent t.group (logs_at t a.number a.log) tell.vector 0 draw a
-            (vector_here t a.number a.log coming live.list there tell.vector tell.consistent few) live.consistent;
+            (vector_here t a.number a.log unpublished live.list there tell.vector tell.consistent few) live.consistent;
       }
 
   number_stays : (b : Bool) → (hear_change (verdict_by b a tell.vector) draw a).number ≡ a.number

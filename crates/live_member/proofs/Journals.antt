@@ -13,7 +13,7 @@ use Rattle.live_member.specs.declared.event.LiveReply.{LiveReply}
 use Rattle.live_member.specs.declared.event.LiveEntry.{LiveEntry}
 use Rattle.live_member.specs.Meanings.{Meaning, objects_of, as_posts, logs_at}
 use Rattle.live_member.specs.Replay.{Replays, after, reply_of}
-use Rattle.live_member.specs.Lives.{BringsPart, IsLive, IsKept, ReplaysTo, living, opening}
+use Rattle.live_member.specs.Lives.{IsOfPublishedPart, IsLive, IsKept, ReplaysTo, living, initial_live_member}
 use Rattle.live_member.specs.LockedCalls.{entry, StepsBy}
 
 replays_more : (t : Meaning) (j : ℕ) (es : List LiveEntry) (from mid : Member) (e : LiveEvent) (r : LiveReply)
@@ -31,9 +31,11 @@ pub record IsAfter (t : Meaning) (e : LiveEvent) (r : LiveReply) (a b : MemberSt
 pub replays_on : (t : Meaning) (a b : MemberState) (journal : List LiveEntry) (e : LiveEvent) (r : LiveReply)
     → ReplaysTo t journal a → IsAfter t e r a b → ReplaysTo t (journal ++ entry e r ∷ []) b
 replays_on t a b journal e r replays is =
-    subst (λ (n : ℕ). Replays t n (journal ++ entry e r ∷ []) (in_group (opening t n)) (in_group b)) (sym is.number)
-    (subst (Replays t a.number (journal ++ entry e r ∷ []) (in_group (opening t a.number))) (sym is.changed)
-    (replays_more t a.number journal (in_group (opening t a.number)) (in_group a) e r replays (sym is.replied)))
+    subst (λ (n : ℕ). Replays t n (journal ++ entry e r ∷ []) (in_group (initial_live_member t n)) (in_group b))
+    (sym is.number)
+    (subst (Replays t a.number (journal ++ entry e r ∷ []) (in_group (initial_live_member t a.number))) (sym is.changed)
+    (replays_more t a.number journal (in_group (initial_live_member t a.number)) (in_group a) e r replays
+    (sym is.replied)))
 
 -- what stays where nothing is published
 pub record IsQuiet (t : Meaning) (a b : MemberState) : Type 0 where
@@ -42,18 +44,20 @@ pub record IsQuiet (t : Meaning) (a b : MemberState) : Type 0 where
   pub draws : b.machine.draws ≤ a.machine.draws + 1
   pub consistent : IsConsistentMember t.group (logs_at t a.number a.log) b
 
-pub lives_on : (t : Meaning) (most : ℕ) (a b : MemberState) (journal : List LiveEntry) (coming : List NamedContents)
-    (e : LiveEvent) (r : LiveReply) → IsLive t most (living a journal coming) → length journal < most
-    → IsAfter t e r a b → BringsPart t e → IsQuiet t a b → IsLive t most (living b (journal ++ entry e r ∷ []) coming)
-lives_on t most a b journal coming e r live less is brings quiet =
+pub lives_on : (t : Meaning) (most : ℕ) (a b : MemberState) (journal : List LiveEntry)
+    (unpublished : List NamedContents)
+    (e : LiveEvent) (r : LiveReply) → IsLive t most (living a journal unpublished) → length journal < most
+    → IsAfter t e r a b → IsOfPublishedPart t e → IsQuiet t a b
+    → IsLive t most (living b (journal ++ entry e r ∷ []) unpublished)
+lives_on t most a b journal unpublished e r live less is brings quiet =
     let same : logs_at t a.number a.log ≡ logs_at t b.number b.log =
     λ i. logs_at t (sym is.number i) (sym quiet.log i) in
     let long = length-append journal (entry e r ∷ []) in
     record {
       within = live.within;
       replays = replays_on t a b journal e r live.replays is;
-      brought = All-push (λ (x : LiveEntry). BringsPart t x.event) journal (entry e r) live.brought brings;
-      list = ap (λ (l : List Post). l ++ as_posts coming) quiet.log ∙ live.list
+      brought = All-push (λ (x : LiveEntry). IsOfPublishedPart t x.event) journal (entry e r) live.brought brings;
+      list = ap (λ (l : List Post). l ++ as_posts unpublished) quiet.log ∙ live.list
           ∙ ap (λ (n : ℕ). as_posts (objects_of t n)) (sym is.number);
       logs = subst (AreLogs t.group) same live.logs;
       consistent = subst (λ (ls : Logs). IsConsistentMember t.group ls b) same quiet.consistent;
@@ -63,19 +67,19 @@ lives_on t most a b journal coming e r live less is brings quiet =
     }
 
 -- a call that publishes nothing, with its entry
-module _ (t : Meaning) (most : ℕ) (a b : MemberState) (journal : List LiveEntry) (coming : List NamedContents)
+module _ (t : Meaning) (most : ℕ) (a b : MemberState) (journal : List LiveEntry) (unpublished : List NamedContents)
     (e : LiveEvent) (r : LiveReply) (less : length journal < most) (is : IsAfter t e r a b)
-    (brings : BringsPart t e) where
-  pub kept_on : (number draw : ℕ) → IsKept t most number draw (living a journal coming) → IsQuiet t a b
-      → IsKept t most number draw (living b (journal ++ entry e r ∷ []) coming)
+    (brings : IsOfPublishedPart t e) where
+  pub kept_on : (number draw : ℕ) → IsKept t most number draw (living a journal unpublished) → IsQuiet t a b
+      → IsKept t most number draw (living b (journal ++ entry e r ∷ []) unpublished)
   kept_on number draw kept quiet = record {
     its_number = kept.its_number ∙ sym is.number;
     its_draw = kept.its_draw;
-    live = lives_on t most a b journal coming e r kept.live less is brings quiet;
+    live = lives_on t most a b journal unpublished e r kept.live less is brings quiet;
   }
 
-  pub steps_on : (number draw : ℕ) → IsKept t most number draw (living a journal coming) → IsQuiet t a b
-      → StepsBy t most e (living a journal coming) (living b (journal ++ entry e r ∷ []) coming) r
+  pub steps_on : (number draw : ℕ) → IsKept t most number draw (living a journal unpublished) → IsQuiet t a b
+      → StepsBy t most e (living a journal unpublished) (living b (journal ++ entry e r ∷ []) unpublished) r
   steps_on number draw kept quiet = (
     (λ full. absurd (omega (arith, full, less))),
     (λ room. (

@@ -17,7 +17,7 @@ use Rattle.repo_member.specs.InGroup.{in_group}
 use Rattle.repo_member.specs.Verdicts.{sync_of}
 use Rattle.repo_member.proofs.PublicLaws.{logs_those, contains-value}
 use Rattle.group_model.specs.Publications.{Logs, post_at, last_of, count}
-use Rattle.group_model.specs.Member.{member_holds, member_hides}
+use Rattle.group_model.specs.Member.{member_holds, has_deleted}
 use Rattle.group_model.specs.Sound.{IsPublished}
 use Rattle.live_member.specs.declared.event.LiveEntry.{LiveEntry}
 use Rattle.live_member.specs.Meanings.{Meaning, logs_at}
@@ -25,8 +25,8 @@ use Rattle.live_member.specs.Reports.{IsReport, IsLoan, loan}
 use Rattle.live_member.specs.Lives.{IsLive, living}
 use Rattle.live_member.proofs.Around.{number_there, packet_alike, part_whole, vector_whole}
 
-module _ (t : Meaning) (most : ℕ) (a : MemberState) (journal : List LiveEntry) (coming : List NamedContents)
-    (live : IsLive t most (living a journal coming)) where
+module _ (t : Meaning) (most : ℕ) (a : MemberState) (journal : List LiveEntry) (unpublished : List NamedContents)
+    (live : IsLive t most (living a journal unpublished)) where
   abbrev ls : Logs
   ls = logs_at t a.number a.log
 
@@ -39,9 +39,9 @@ module _ (t : Meaning) (most : ℕ) (a : MemberState) (journal : List LiveEntry)
     sender = a.number;
     vector = a.known;
     there = there;
-    consistent = vector_whole t a.number a.log coming live.list there a.known
+    consistent = vector_whole t a.number a.log unpublished live.list there a.known
         (record { width = live.consistent.sound.width; no_more = live.consistent.sound.known });
-    reported = refl;
+    told = refl;
   }
 
   held_published : (part : Part) → member_holds (in_group a) part ≡ true → IsPublished ls (pair_of part)
@@ -62,9 +62,9 @@ module _ (t : Meaning) (most : ℕ) (a : MemberState) (journal : List LiveEntry)
       let held = stored_held part octets h in
       let is : IsPublished ls (pair_of part) = held_published part held in
       record {
-        published = part_whole t a.number a.log coming live.list there part
+        published = part_whole t a.number a.log unpublished live.list there part
             (record { there = is; counted = (live.consistent.sound.held part held).counted });
-        packet = sym (packet_alike t a.number a.log coming live.list there part is)
+        packet = sym (packet_alike t a.number a.log unpublished live.list there part is)
             ∙ live.consistent.packets part octets h;
       }
 
@@ -78,9 +78,9 @@ module _ (t : Meaning) (most : ℕ) (a : MemberState) (journal : List LiveEntry)
         (part.seq - 1))) else None)
         (eq-eqb part.publisher a.number own)
 
-    none_shown : (hides : Bool) → member_hides (in_group a) (a.number, part.seq) ≡ hides → hides ≡ true → ⊥
+    none_shown : (hides : Bool) → has_deleted (in_group a) (a.number, part.seq) ≡ hides → hides ≡ true → ⊥
     none_shown hides is h =
-        let none : member_hides (in_group a) (a.number, part.seq) ≡ false =
+        let none : has_deleted (in_group a) (a.number, part.seq) ≡ false =
         ap (λ (hidden : List Pair). contains pair_cmp hidden (a.number, part.seq)) live.hidden in
         true≢false (sym h ∙ sym is ∙ none)
 
@@ -92,7 +92,7 @@ module _ (t : Meaning) (most : ℕ) (a : MemberState) (journal : List LiveEntry)
         let few : part.part ≤ count ls (a.number, part.seq) =
         subst (λ (n : ℕ). part.part ≤ count ls (n, part.seq)) own counted in
         elim (live.consistent.sound.own_held part.seq here) [
-          | inl hides ↦ absurd (none_shown (member_hides (in_group a) (a.number, part.seq)) refl hides)
+          | inl hides ↦ absurd (none_shown (has_deleted (in_group a) (a.number, part.seq)) refl hides)
           | inr held ↦
               subst (λ (n : ℕ). member_holds (in_group a) (part_of (n, part.seq) part.part) ≡ true) (sym own)
               (held part.part few)

@@ -23,7 +23,7 @@ use Rattle.live_member.specs.declared.event.LiveEvent.TheVariants as event
 use Rattle.live_member.specs.declared.event.LiveReply.TheVariants as reply
 use Rattle.live_member.specs.declared.event.LiveEntry.{LiveEntry}
 use Rattle.live_member.specs.Meanings.{Meaning, objects_of, as_posts, whole_logs, logs_at, world_at, environment}
-use Rattle.live_member.specs.Lives.{BringsPart, IsLive, IsKept, living}
+use Rattle.live_member.specs.Lives.{IsOfPublishedPart, IsLive, IsKept, living}
 use Rattle.live_member.specs.Replay.{next_object}
 use Rattle.live_member.specs.LockedCalls.{entry, IsNext}
 use Rattle.live_member.proofs.Around.{width_whole, number_there, is_member, whole_at, log_at}
@@ -103,7 +103,7 @@ module _ (t : Meaning) (most : ℕ) (a : MemberState) (journal : List LiveEntry)
       record {
         within = live.within;
         replays = replays_on t a b journal event.Publish (reply.Published (next_seq a)) live.replays publish_after;
-        brought = All-push (λ (e : LiveEntry). BringsPart t e.event) journal
+        brought = All-push (λ (e : LiveEntry). IsOfPublishedPart t e.event) journal
             (entry event.Publish (reply.Published (next_seq a))) live.brought tt;
         list = append_assoc a.log (Offers object ∷ []) (as_posts rest) ∙ live.list;
         logs = logs_later;
@@ -115,9 +115,10 @@ module _ (t : Meaning) (most : ℕ) (a : MemberState) (journal : List LiveEntry)
       }
 
 -- what the first object that is still to come makes of a member
-pub record IsFirst (t : Meaning) (most : ℕ) (a : MemberState) (journal : List LiveEntry) (coming : List NamedContents)
+pub record IsFirst (t : Meaning) (most : ℕ) (a : MemberState) (journal : List LiveEntry)
+    (unpublished : List NamedContents)
     (object : NamedContents) (rest : List NamedContents) (draw : ℕ) : Type 0 where
-  pub first : coming ≡ object ∷ rest
+  pub first : unpublished ≡ object ∷ rest
   pub live : IsLive t most (living a journal (object ∷ rest))
   pub value : draw ≡ slice_index t.draws a.number
 
@@ -127,11 +128,12 @@ first_and_rest [] x some is = absurd (omega arith)
 first_and_rest (y ∷ ys) x some is = ap (λ (z : NamedContents). z ∷ ys) (sym is)
 
 pub is_first : (t : Meaning) (most number draw : ℕ) (a : MemberState) (journal : List LiveEntry)
-    (coming : List NamedContents) (object : NamedContents) → IsKept t most number draw (living a journal coming)
-    → 0 < length coming → object ≡ get_or coming 0 object
-    → IsFirst t most a journal coming object (drop 1 coming) draw
-is_first t most number draw a journal coming object kept some is =
-    let first : coming ≡ object ∷ drop 1 coming = first_and_rest coming object some is in
+    (unpublished : List NamedContents) (object : NamedContents)
+    → IsKept t most number draw (living a journal unpublished)
+    → 0 < length unpublished → object ≡ get_or unpublished 0 object
+    → IsFirst t most a journal unpublished object (drop 1 unpublished) draw
+is_first t most number draw a journal unpublished object kept some is =
+    let first : unpublished ≡ object ∷ drop 1 unpublished = first_and_rest unpublished object some is in
     record {
       first = first;
       live = subst (λ (cs : List NamedContents). IsLive t most (living a journal cs)) first kept.live;
@@ -139,9 +141,9 @@ is_first t most number draw a journal coming object kept some is =
     }
 
 -- the call and its entry, for whatever the member is afterwards
-module _ (t : Meaning) (most : ℕ) (a after : MemberState) (journal : List LiveEntry) (coming : List NamedContents)
+module _ (t : Meaning) (most : ℕ) (a after : MemberState) (journal : List LiveEntry) (unpublished : List NamedContents)
     (object : NamedContents) (rest : List NamedContents) (draw : ℕ)
-    (f : IsFirst t most a journal coming object rest draw) (less : length journal < most)
+    (f : IsFirst t most a journal unpublished object rest draw) (less : length journal < most)
     (new : after ≡ member_publishes t.group (Offers object) 0 draw a) where
   abbrev entries : List LiveEntry
   entries = journal ++ entry event.Publish (reply.Published (next_seq a)) ∷ []
@@ -151,7 +153,7 @@ module _ (t : Meaning) (most : ℕ) (a after : MemberState) (journal : List Live
       subst (λ (b : MemberState). IsLive t most (living b entries rest)) (sym new)
       (published_lives t most a journal object rest draw f.live f.value less)
 
-  pub kept_after : (number : ℕ) → IsKept t most number draw (living a journal coming)
+  pub kept_after : (number : ℕ) → IsKept t most number draw (living a journal unpublished)
       → IsKept t most number draw (living after entries rest)
   kept_after number kept = record {
     its_number = kept.its_number ∙ sym (ap (λ (b : MemberState). b.number) new);
@@ -160,8 +162,8 @@ module _ (t : Meaning) (most : ℕ) (a after : MemberState) (journal : List Live
   }
 
   pub is_next : (octets : List ℕ) → octets ≡ sync_of t.group a.number after.known
-      → IsNext t most (living a journal coming) (living after entries rest) octets
-  is_next octets reported =
+      → IsNext t most (living a journal unpublished) (living after entries rest) octets
+  is_next octets told =
       let is = publish_after t most a journal object rest draw f.live f.value in
       record {
         room = less;
@@ -175,6 +177,6 @@ module _ (t : Meaning) (most : ℕ) (a after : MemberState) (journal : List Live
           number = ap (λ (b : MemberState). b.number) new;
           entered = refl;
         };
-        reported = reported ∙ (λ i. sync_of t.group (sym (ap (λ (b : MemberState). b.number) new) i) after.known);
+        told = told ∙ (λ i. sync_of t.group (sym (ap (λ (b : MemberState). b.number) new) i) after.known);
         live = lives_after;
       }

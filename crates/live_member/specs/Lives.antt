@@ -2,7 +2,7 @@
 use Rattle.std.specs.Prelude.{ℕ, ◌≡◌, ◌+◌, ◌≤◌, ⊤, List, [], ◌++◌, length, slice_index}
 use Rattle.std.specs.List.{All}
 use Rattle.repo_object.specs.Objects.{NamedContents}
-use Rattle.repo_member.specs.MemberState.{MemberState, member_opening}
+use Rattle.repo_member.specs.MemberState.{MemberState, initial_member}
 use Rattle.repo_member.specs.InGroup.{AreLogs, in_group}
 use Rattle.repo_member.specs.ConsistentMembers.{IsConsistentMember}
 use Rattle.group_model.specs.Sound.{IsPublishedPart}
@@ -16,28 +16,28 @@ use Rattle.live_member.specs.Replay.{Replays}
 pub record Living : Type 0 where
   pub state : MemberState
   pub journal : List LiveEntry
-  pub coming : List NamedContents
+  pub unpublished : List NamedContents
 
 -- A member with its journal and the objects that it is still to publish.
 abbrev pub living : MemberState → List LiveEntry → List NamedContents → Living
-living state journal coming = record { state = state; journal = journal; coming = coming }
+living state journal unpublished = record { state = state; journal = journal; unpublished = unpublished }
 
 -- A member that has just begun.
-abbrev pub opening : Meaning → ℕ → MemberState
-opening t j = member_opening (length t.lists) j 0 (slice_index t.draws j)
+abbrev pub initial_live_member : Meaning → ℕ → MemberState
+initial_live_member t j = initial_member (length t.lists) j 0 (slice_index t.draws j)
 
 -- A journal, from the beginning of the member on, replays to it.
 abbrev pub ReplaysTo : Meaning → List LiveEntry → MemberState → Type 0
-ReplaysTo t journal a = Replays t a.number journal (in_group (opening t a.number)) (in_group a)
+ReplaysTo t journal a = Replays t a.number journal (in_group (initial_live_member t a.number)) (in_group a)
 
 -- A packet that came, taken or refused, is of a part of a publication of the lists.
-abbrev pub BringsPart : Meaning → LiveEvent → Type 0
-BringsPart t (event.Accept f part) = IsPublishedPart (whole_logs t) part
-BringsPart t _ = ⊤
+abbrev pub IsOfPublishedPart : Meaning → LiveEvent → Type 0
+IsOfPublishedPart t (event.Accept f part) = IsPublishedPart (whole_logs t) part
+IsOfPublishedPart t _ = ⊤
 
 -- So it is of each entry of a journal.
-abbrev pub BringParts : Meaning → List LiveEntry → Type 0
-BringParts t journal = All (λ e. BringsPart t e.event) journal
+abbrev pub AreOfPublishedParts : Meaning → List LiveEntry → Type 0
+AreOfPublishedParts t journal = All (λ e. IsOfPublishedPart t e.event) journal
 
 -- The group is within its limits. The journal replays to the member, and each packet in it is of a part of the lists.
 -- What the member published, followed by what is still to come, is its list. It is as each in a sound group in which
@@ -46,8 +46,8 @@ BringParts t journal = All (λ e. BringsPart t e.event) journal
 pub record IsLive (t : Meaning) (most : ℕ) (l : Living) : Type 0 where
   pub within : IsWithinLimits t
   pub replays : ReplaysTo t l.journal l.state
-  pub brought : BringParts t l.journal
-  pub list : l.state.log ++ as_posts l.coming ≡ as_posts (objects_of t l.state.number)
+  pub brought : AreOfPublishedParts t l.journal
+  pub list : l.state.log ++ as_posts l.unpublished ≡ as_posts (objects_of t l.state.number)
   pub logs : AreLogs t.group (logs_at t l.state.number l.state.log)
   pub consistent : IsConsistentMember t.group (logs_at t l.state.number l.state.log) l.state
   pub hidden : l.state.hidden ≡ []

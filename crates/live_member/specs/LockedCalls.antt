@@ -30,7 +30,7 @@ pub record IsEntered (t : Meaning) (e : LiveEvent) (old new : Living) (r : LiveR
 abbrev pub StepsBy : Meaning → ℕ → LiveEvent → Living → Living → LiveReply → Type 0
 StepsBy t most e old new r =
     (most ≤ length old.journal → (r ≡ reply.Full) × (new ≡ old))
-    × (length old.journal < most → IsEntered t e old new r × (new.coming ≡ old.coming))
+    × (length old.journal < most → IsEntered t e old new r × (new.unpublished ≡ old.unpublished))
     × IsLive t most new
 
 -- Running out of memory changes nothing.
@@ -43,16 +43,16 @@ Steps t most e old new (Err want) = new ≡ old
 pub record IsNext (t : Meaning) (most : ℕ) (old new : Living) (octets : List ℕ) : Type 0 where
   pub room : length old.journal < most
   pub object : NamedContents
-  pub first : old.coming ≡ object ∷ new.coming
+  pub first : old.unpublished ≡ object ∷ new.unpublished
   pub log : new.state.log ≡ old.state.log ++ Offers object ∷ []
   pub reply : LiveReply
   pub entered : IsEntered t event.Publish old new reply
-  pub reported : octets ≡ sync_of t.group new.state.number new.state.known
+  pub told : octets ≡ sync_of t.group new.state.number new.state.known
   pub live : IsLive t most new
 
 -- Nothing is to come; else there is no room; else the next object is published.
 abbrev pub Publishes : {A L : Type 0} → Meaning → ℕ → Living → Living → Result (NextTold L) A → Type 0
 Publishes t most old new (Ok (next.Told octets)) = IsNext t most old new octets
-Publishes t most old new (Ok next.Done) = (old.coming ≡ []) × (new ≡ old)
-Publishes t most old new (Ok next.Full) = (old.coming ≢ []) × (most ≤ length old.journal) × (new ≡ old)
+Publishes t most old new (Ok next.Done) = (old.unpublished ≡ []) × (new ≡ old)
+Publishes t most old new (Ok next.Full) = (old.unpublished ≢ []) × (most ≤ length old.journal) × (new ≡ old)
 Publishes t most old new (Err want) = new ≡ old

@@ -1,12 +1,12 @@
 -- What a live group stands for, and the group as a journal of one member sees it.
 use Rattle.std.specs.Prelude.{ℕ, ◌+◌, ◌≤◌, false, List, [], map, length, sum_by, slice_index, slice_index_or, slice_set}
-use Rattle.repo_plan.specs.Parts.{parts_after, shape_of_segments}
+use Rattle.repo_plan.specs.Parts.{last_part, shape_of_segments}
 use Rattle.repo_object.specs.Objects.{NamedContents, Post}
 use Rattle.repo_object.specs.Objects.Post.{Offers}
 use Rattle.repo_member.specs.Groups.{GroupKeys, no_nodes}
 use Rattle.repo_member.specs.InGroup.{AreLogs}
 use Rattle.group_model.specs.Publications.{Logs, all_parts}
-use Rattle.group_model.specs.Events.Came.{Nothing}
+use Rattle.group_model.specs.Events.Response.{Nothing}
 use Rattle.group_model.specs.Member.{Member}
 use Rattle.group_model.specs.World.{World, Environment, no_member}
 
@@ -52,7 +52,7 @@ part_limit = 4000
 
 -- How many parts an object has: its record, its index packets and its segments.
 abbrev pub part_count : NamedContents → ℕ
-part_count object = parts_after (shape_of_segments (length object.contents)) + 1
+part_count object = last_part (shape_of_segments (length object.contents)) + 1
 
 -- What the members are to publish can be published, and isn't too much.
 pub record IsWithinLimits (t : Meaning) : Type 0 where

@@ -8,8 +8,8 @@ use Rattle.svs_sync.specs.declared.mode.Mode.{Mode}
 use Rattle.svs_sync.specs.declared.mode.Mode.TheVariants.{Steady, Suppressed}
 use Rattle.repo_member.specs.Verdicts.{group_verdict}
 use Rattle.group_model.specs.Publications.{Logs, no_object}
-use Rattle.group_model.specs.Events.{SyncInterest, Came, Event}
-use Rattle.group_model.specs.Events.Came.{Nothing, Its}
+use Rattle.group_model.specs.Events.{SyncInterest, Response, Event}
+use Rattle.group_model.specs.Events.Response.{Nothing, Its}
 use Rattle.group_model.specs.Member.{Member}
 use Rattle.group_model.specs.World.{member}
 use Rattle.group_model.specs.Replies.{Reply}
@@ -29,7 +29,7 @@ next_object t j m = slice_index_or (objects_of t j) (length m.log) no_object
 
 -- What octets are read as.
 abbrev pub sync_read : {A : Type 0} → Result (ℕ × List ℕ) A → Option SyncInterest
-sync_read (Ok reported) = Some (record { sender = reported.0; vector = reported.1 })
+sync_read (Ok told) = Some (record { sender = told.0; vector = told.1 })
 sync_read (Err refusal) = None
 
 -- The two parts are the same.
@@ -37,7 +37,7 @@ abbrev pub is_part : Part → Part → Bool
 is_part t u = (t.publisher == u.publisher) && ((t.seq == u.seq) && (t.part == u.part))
 
 -- The packet of a part is taken for a claim of that part alone.
-abbrev pub fed : Part → Logs → Part → Came
+abbrev pub fed : Part → Logs → Part → Response
 fed t logs claimed = if is_part t claimed then Its else Nothing
 
 -- The event of the group that an entry of a journal stands for.

@@ -13,7 +13,7 @@ pub record IsReport (t : Meaning) (octets : List ℕ) : Type 0 where
   pub vector : List ℕ
   pub there : sender < length t.lists
   pub consistent : IsConsistentVector (whole_logs t) vector
-  pub reported : octets ≡ sync_of t.group sender vector
+  pub told : octets ≡ sync_of t.group sender vector
 
 -- A part, with octets.
 pub record Loan : Type 0 where

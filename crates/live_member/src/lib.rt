@@ -11,7 +11,7 @@ mod limits;
 mod lists;
 mod live;
 mod octets;
-mod reported;
+mod told;
 
 pub use event::{LiveEntry, LiveEvent, LiveReply};
 pub use lent::Lent;
@@ -19,4 +19,4 @@ pub use limits::{OBJECT_LIMIT, PART_LIMIT, are_within_limits, count_parts};
 pub use lists::Lists;
 pub use live::{Live, NextTold};
 pub use octets::Octets;
-pub use reported::Told;
+pub use told::Told;

@@ -21,7 +21,7 @@ pub fn are_within_limits(g: &Group, lists: &[Vec<Object>]) -> bool
     ensures { (draws : List ℕ) → IsTrue result
         ↔ IsWithinLimits (meaning_of g.now (map (λ l. l.items) lists.now) draws) }
 {
-    g.is_sound();
+    g.cite_soundness();
     if lists.len() != g.roster().len() || !are_few(lists) {
         return false;
     }
@@ -76,5 +76,5 @@ fn part_count(object: &Object) -> u32
     ensures object { IsObject object.now }
 {
     let segments = object.contents().len();
-    Shape::of(segments as u16).parts_after() + 1
+    Shape::of(segments as u16).last_part() + 1
 }

@@ -3,7 +3,7 @@ ghost use Rattle.repo_plan.specs.Calls.{IsFetcher};
 ghost use Rattle.repo_member.specs.MemberState.{logged};
 ghost use Rattle.repo_member.specs.Verdicts.{sync_of};
 ghost use Rattle.live_member.specs.Meanings.{IsWithinLimits, objects_of, as_posts};
-ghost use Rattle.live_member.specs.Lives.{living, opening, BringParts, ReplaysTo, IsLive};
+ghost use Rattle.live_member.specs.Lives.{living, initial_live_member, AreOfPublishedParts, ReplaysTo, IsLive};
 ghost use Rattle.live_member.specs.LockedCalls.{Steps, Publishes};
 ghost use Rattle.live_member.specs.declared.event.LiveEvent.TheVariants as event;
 
@@ -11,7 +11,7 @@ use crate::calls::{accepted, claimed, heard, lost, published};
 use crate::event::{LiveEntry, LiveEvent, LiveReply};
 use crate::lent::Lent;
 use crate::lists::Lists;
-use crate::reported::Told;
+use crate::told::Told;
 use repo_member::{Group, Member};
 use repo_object::Object;
 use repo_plan::Part;
@@ -38,7 +38,7 @@ pub struct Live<L: Lists, const M: u32> {
     draw: u32,
     member: Member,
     journal: Vec<LiveEntry>,
-    coming: VecDeque<Object>,
+    unpublished: VecDeque<Object>,
     of: PhantomData<L>,
 }
 
@@ -51,7 +51,7 @@ impl<L: Lists, const M: u32> Drop for Live<L, M> {
                 draw: _,
                 member: _,
                 journal: _,
-                coming: _,
+                unpublished: _,
                 of: _,
             } => {}
         }
@@ -63,10 +63,10 @@ impl<L: Lists, const M: u32> Model for Live<L, M> {
 
     ghost Value = { Living };
 
-    ghost view = { λ l. living l.member l.journal.items l.coming.items };
+    ghost view = { λ l. living l.member l.journal.items l.unpublished.items };
 
     ghost invariant = { λ l. IsKept L.meaning M l.number l.draw
-        (living l.member l.journal.items l.coming.items) };
+        (living l.member l.journal.items l.unpublished.items) };
 }
 
 impl<L: Lists, const M: u32> Live<L, M> {
@@ -83,7 +83,7 @@ impl<L: Lists, const M: u32> Live<L, M> {
         requires number { number < length L.meaning.lists }
         requires list { objects.items ≡ objects_of L.meaning number }
         requires draw { draw ≡ slice_index L.meaning.draws number }
-        ensures begins { IfOk result (λ live. live ≡ living (opening L.meaning number) [] objects.items) }
+        ensures begins { IfOk result (λ live. live ≡ living (initial_live_member L.meaning number) [] objects.items) }
         ensures live { IfOk result (λ live. IsLive L.meaning M live) }
     {
         Ok(Live {
@@ -91,7 +91,7 @@ impl<L: Lists, const M: u32> Live<L, M> {
             draw,
             member: Member::new(alloc, g, number, 0, draw)?,
             journal: Vec::new(alloc),
-            coming: VecDeque::from(objects),
+            unpublished: VecDeque::from(objects),
             of: PhantomData,
         })
     }
@@ -107,7 +107,7 @@ impl<L: Lists, const M: u32> Live<L, M> {
         requires { g.now ≡ L.meaning.group }
         ensures { Publishes L.meaning M self.old self.new result }
     {
-        let Some(object) = self.coming.front() else {
+        let Some(object) = self.unpublished.front() else {
             return Ok(NextTold::Done);
         };
         if self.journal.len() >= M as usize {
@@ -115,7 +115,7 @@ impl<L: Lists, const M: u32> Live<L, M> {
         }
         self.journal.reserve(1)?;
         let published = published(&mut self.member, g, object, self.draw)?;
-        self.coming.pop_front();
+        self.unpublished.pop_front();
         self.journal.push_reserved(LiveEntry {
             event: LiveEvent::Publish,
             reply: LiveReply::Published { seq: published.seq },
@@ -124,16 +124,16 @@ impl<L: Lists, const M: u32> Live<L, M> {
     }
 
     /// The member hears a sync Interest.
-    pub fn hear(&mut self, g: &Group, reported: &Told<L>) -> Result<LiveReply, AllocError>
+    pub fn hear(&mut self, g: &Group, told: &Told<L>) -> Result<LiveReply, AllocError>
         requires { g.now ≡ L.meaning.group }
-        ensures { Steps L.meaning M (event.Hear reported.now) self.old self.new result }
+        ensures { Steps L.meaning M (event.Hear told.now) self.old self.new result }
     {
         if self.journal.len() >= M as usize {
             return Ok(LiveReply::Full);
         }
         self.journal.reserve(1)?;
-        let octets = reported.copied(*self.journal.allocator())?;
-        let reply = heard(&mut self.member, g, reported.octets(), self.draw)?;
+        let octets = told.copied(*self.journal.allocator())?;
+        let reply = heard(&mut self.member, g, told.octets(), self.draw)?;
         self.journal.push_reserved(LiveEntry {
             event: LiveEvent::Hear { octets },
             reply,
@@ -213,7 +213,7 @@ impl<L: Lists, const M: u32> Live<L, M> {
     /// The sync Interest that tells what the member knows now.
     pub fn tell(&self, alloc: Global, g: &Group) -> Result<Told<L>, AllocError>
         requires { g.now ≡ L.meaning.group }
-        ensures { IfOk result (λ reported. reported ≡ sync_of L.meaning.group self.now.state.number
+        ensures { IfOk result (λ told. told ≡ sync_of L.meaning.group self.now.state.number
             self.now.state.known) }
     {
         let octets = self.member.sync(alloc, g)?;
@@ -232,7 +232,7 @@ impl<L: Lists, const M: u32> Live<L, M> {
             draw,
             member,
             journal,
-            coming,
+            unpublished,
             of,
         } = self;
         Live {
@@ -240,7 +240,7 @@ impl<L: Lists, const M: u32> Live<L, M> {
             draw,
             member,
             journal,
-            coming,
+            unpublished,
             of,
         }
     }
@@ -251,8 +251,8 @@ impl<L: Lists, const M: u32> Live<L, M> {
     pub fn journal(&self) -> &[LiveEntry]
         ensures journal { result.now ≡ self.now.journal }
         ensures replays { ReplaysTo L.meaning self.now.journal self.now.state }
-        ensures brought { BringParts L.meaning self.now.journal }
-        ensures publications { self.now.state.log ++ as_posts self.now.coming
+        ensures brought { AreOfPublishedParts L.meaning self.now.journal }
+        ensures publications { self.now.state.log ++ as_posts self.now.unpublished
             ≡ as_posts (objects_of L.meaning self.now.state.number) }
     {
         self.journal.as_slice()
@@ -275,7 +275,7 @@ impl<L: Lists, const M: u32> Live<L, M> {
                 draw: _,
                 member,
                 journal,
-                coming: _,
+                unpublished: _,
                 of: _,
             } => (journal, member),
         }

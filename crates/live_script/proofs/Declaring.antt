@@ -30,7 +30,8 @@ use Rattle.script_lang.proofs.Parties.{nobody_has}
 use Rattle.repo_member.specs.Groups.{GroupKeys, NodeKeys, IsKey, IsPlainNodeName, is_name_taken, no_nodes}
 use Rattle.repo_member.proofs.PublicLaws.{none_found, same_name, above_digests, object_name}
 use Rattle.script_report.specs.declared.refusal.Refusal.TheVariants as refusal
-use Rattle.live_script.specs.Judging.{Reached, counted, judged_line, named, nobody, refused, taken, with_member_too}
+use Rattle.live_script.specs.Evaluation.{Reached, counted, evaluated_line, named, nobody, refused, taken}
+use Rattle.live_script.specs.Evaluation.{with_member_too}
 use Rattle.live_script.specs.Scripts.{GivesNobody, IsKept, IsLine, IsPublication, TotalsView, group_keys}
 
 -- ---- names and keys
@@ -150,8 +151,8 @@ group_kept labels None totals r d name same k first is = rw is (record {
 
 pub group_line : (r : Reached) (d : Declared) (name : List Component) (octets : List ℕ)
     → after_line r.declared (statement verb.Group (Named name ∷ [])) ≡ Ok d
-    → judged_line r octets (statement verb.Group (Named name ∷ [])) ≡ taken r octets d (named name) r.lists
-unfolding judged_line
+    → evaluated_line r octets (statement verb.Group (Named name ∷ [])) ≡ taken r octets d (named name) r.lists
+unfolding evaluated_line
 group_line r d name octets h = rw h refl
 
 -- A member is there with its label, its name and its key, and is to publish nothing yet.
@@ -191,9 +192,9 @@ member_kept labels g totals r d label node key same k is = rw is (record {
 
 pub member_line : (r : Reached) (d : Declared) (label : List ℕ) (node : List Component) (key octets : List ℕ)
     → after_line r.declared (statement verb.Member (Text label ∷ Named node ∷ Octets key ∷ [])) ≡ Ok d
-    → judged_line r octets (statement verb.Member (Text label ∷ Named node ∷ Octets key ∷ []))
+    → evaluated_line r octets (statement verb.Member (Text label ∷ Named node ∷ Octets key ∷ []))
     ≡ taken r octets d (with_member_too node key r.keys) (r.lists ++ [] ∷ [])
-unfolding judged_line
+unfolding evaluated_line
 member_line r d label node key octets h = rw h refl
 
 -- ---- what the lines come to, at what is seen of those before
@@ -201,7 +202,7 @@ member_line r d label node key octets h = rw h refl
 pub group_taken : (view r : Reached) (s : Stated) (d : Declared) (name : List Component) (g : GroupKeys) → view ≡ r
     → s ≡ statement verb.Group (Named name ∷ []) → after_line view.declared s ≡ Ok d → g ≡ named name
     → (octets : List ℕ)
-    → judged_line r octets s ≡ counted octets (record view { declared = d; keys = g })
+    → evaluated_line r octets s ≡ counted octets (record view { declared = d; keys = g })
 group_taken view r s d name g same is h keys octets =
     rw (← same, is, keys) (group_line view d name octets
     (subst (λ (x : Stated). after_line view.declared x ≡ Ok d) is h))
@@ -210,7 +211,7 @@ pub member_taken : (view r : Reached) (s : Stated) (d : Declared) (label : List 
     (key : List ℕ) (g : GroupKeys) (lists : List (List NamedContents)) → view ≡ r
     → s ≡ statement verb.Member (Text label ∷ Named node ∷ Octets key ∷ []) → after_line view.declared s ≡ Ok d
     → g ≡ with_member_too node key view.keys → lists ≡ view.lists ++ [] ∷ [] → (octets : List ℕ)
-    → judged_line r octets s ≡ counted octets (record view { declared = d; keys = g; lists = lists })
+    → evaluated_line r octets s ≡ counted octets (record view { declared = d; keys = g; lists = lists })
 member_taken view r s d label node key g lists same is h keys one_more octets =
     rw (← same, is, keys, one_more) (member_line view d label node key octets
     (subst (λ (x : Stated). after_line view.declared x ≡ Ok d) is h))
@@ -218,8 +219,8 @@ member_taken view r s d label node key g lists same is h keys one_more octets =
 -- A member's line before the group's is refused.
 pub member_ungrouped : (view r : Reached) (s : Stated) (label : List ℕ) (node : List Component) (key : List ℕ)
     → view ≡ r → s ≡ statement verb.Member (Text label ∷ Named node ∷ Octets key ∷ []) → view.declared.group ≡ false
-    → (octets : List ℕ) → judged_line r octets s ≡ refused refusal.NoGroup
-unfolding judged_line
+    → (octets : List ℕ) → evaluated_line r octets s ≡ refused refusal.NoGroup
+unfolding evaluated_line
 member_ungrouped view r s label node key same is none octets = rw (← same, is, none) refl
 
 -- Without a group nobody was declared.

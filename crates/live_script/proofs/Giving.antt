@@ -11,7 +11,7 @@ use Rattle.repo_object.specs.declared.object.Object.{Object}
 use Rattle.repo_member.specs.Groups.{GroupKeys, IsGroup}
 use Rattle.live_member.specs.Meanings.{IsWithinLimits, meaning_of}
 use Rattle.live_member.proofs.PublicLaws.{parts_are_counted, within}
-use Rattle.live_script.specs.Judging.{Reached}
+use Rattle.live_script.specs.Evaluation.{Reached}
 use Rattle.live_script.specs.Scripts.{Gives, IsKept, TotalsView, group_keys}
 
 within_kept : (labels : List (List ℕ)) (group : Option GroupKeys) (totals : TotalsView) (view : Reached)

@@ -1,4 +1,4 @@
-pub mod Judged
+pub mod Evaluated
 pub mod Taking
 pub mod Declaring
 pub mod Publishing

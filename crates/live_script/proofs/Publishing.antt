@@ -30,9 +30,9 @@ use Rattle.script_lang.proofs.Conditions.{and_left}
 use Rattle.script_lang.proofs.Parties.{any_within}
 use Rattle.repo_member.specs.Groups.{GroupKeys}
 use Rattle.script_report.specs.declared.refusal.Refusal.TheVariants as refusal
-use Rattle.live_script.specs.Judging.{Reached, counted, cut_object, is_few, judged_line, member_number, published}
-use Rattle.live_script.specs.Judging.{refused}
-use Rattle.live_script.specs.Judging.{with_object}
+use Rattle.live_script.specs.Evaluation.{Reached, counted, cut_object, is_few, evaluated_line, member_number, published}
+use Rattle.live_script.specs.Evaluation.{refused}
+use Rattle.live_script.specs.Evaluation.{with_object}
 use Rattle.live_script.specs.Scripts.{IsKept, TotalsView, are_few, with_one_more}
 
 -- ---- the place of a member
@@ -102,16 +102,16 @@ module _ (m : List ℕ) (name : List Component) (size : ℕ) (content : List ℕ
 
   pub publish_line : (r : Reached) (d : Declared) (octets : List ℕ)
       → after_line r.declared (statement verb.Publish values) ≡ Ok d
-      → judged_line r octets (statement verb.Publish values)
+      → evaluated_line r octets (statement verb.Publish values)
       ≡ published r octets d (with_object (member_number m d.members) (cut_object name size content) r.lists)
-  unfolding judged_line
+  unfolding evaluated_line
   publish_line r d octets h = rw h refl
 
   pub publish_taken : (view r : Reached) (s : Stated) (d : Declared) (lists : List (List NamedContents)) → view ≡ r
       → s ≡ statement verb.Publish values → after_line view.declared s ≡ Ok d
       → lists ≡ with_object (member_number m d.members) (cut_object name size content) view.lists
       → is_few d lists ≡ true → (octets : List ℕ)
-      → judged_line r octets s ≡ counted octets (record view { declared = d; lists = lists })
+      → evaluated_line r octets s ≡ counted octets (record view { declared = d; lists = lists })
   publish_taken view r s d lists same is h one_more few octets =
       let line = publish_line view d octets (subst (λ (x : Stated). after_line view.declared x ≡ Ok d) is h) in
       let fits : is_few d (with_object (member_number m d.members) (cut_object name size content) view.lists) ≡ true =
@@ -121,7 +121,7 @@ module _ (m : List ℕ) (name : List Component) (size : ℕ) (content : List ℕ
   pub publish_refused : (view r : Reached) (s : Stated) (d : Declared) → view ≡ r → s ≡ statement verb.Publish values
       → after_line view.declared s ≡ Ok d
       → is_few d (with_object (member_number m d.members) (cut_object name size content) view.lists) ≡ false
-      → (octets : List ℕ) → judged_line r octets s ≡ refused refusal.TooLarge
+      → (octets : List ℕ) → evaluated_line r octets s ≡ refused refusal.TooLarge
   publish_refused view r s d same is h many octets =
       let line = publish_line view d octets (subst (λ (x : Stated). after_line view.declared x ≡ Ok d) is h) in
       rw (← same, is) (line ∙ rw many refl)

@@ -6,6 +6,6 @@ pub use Rattle.repo_member.specs.Groups
 pub use Rattle.live_member.specs.Meanings
 pub use Rattle.script_report.specs.Refusals
 pub mod Limits
-pub mod Judging
+pub mod Evaluation
 pub mod LineErrors
 pub mod Scripts

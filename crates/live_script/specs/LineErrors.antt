@@ -9,7 +9,7 @@ use Rattle.repo_member.specs.declared.group_fault.GroupFault.TheVariants as grou
 use Rattle.script_report.specs.declared.refusal.Refusal.TheVariants as refusal
 use Rattle.live_script.specs.declared.error.LineError.{LineError}
 use Rattle.live_script.specs.declared.error.LineError.TheVariants.{Refused, NoMemory}
-use Rattle.live_script.specs.Judging.{Verdict, refused}
+use Rattle.live_script.specs.Evaluation.{Verdict, refused}
 
 -- Why a line is not taken that octets fail to be.
 abbrev pub line_fault_error : LineFault → LineError

@@ -12,7 +12,7 @@ use Rattle.repo_member.specs.Groups.{GroupKeys, no_nodes}
 use Rattle.live_member.specs.Meanings.{meaning_of, IsWithinLimits, object_limit, part_count, part_limit}
 use Rattle.live_script.specs.declared.members.Members.{Members}
 use Rattle.live_script.specs.declared.totals.Totals.{Totals}
-use Rattle.live_script.specs.Judging.{Reached, nobody}
+use Rattle.live_script.specs.Evaluation.{Reached, nobody}
 use Rattle.live_script.specs.Limits.{live_contents}
 
 -- ---- totals

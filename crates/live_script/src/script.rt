@@ -6,9 +6,9 @@ ghost use Rattle.script_lang.specs.Forms.{statement, stated};
 ghost use Rattle.script_lang.specs.Kinds.{Text, Number, Named, Octets};
 ghost use Rattle.repo_object.specs.Objects.{IsObject};
 ghost use Rattle.repo_member.specs.Groups.{IsKey, IsPlainNodeName, is_name_taken, node_limit};
-ghost use Rattle.live_script.specs.Judging.{counted, cut_object, is_within_input, judged, judged_line};
-ghost use Rattle.live_script.specs.Judging.{nothing_reached, takes};
-ghost use Rattle.live_script.specs.Judging.{with_member_too, with_object};
+ghost use Rattle.live_script.specs.Evaluation.{counted, cut_object, is_within_input, evaluated, evaluated_line};
+ghost use Rattle.live_script.specs.Evaluation.{nothing_reached, takes};
+ghost use Rattle.live_script.specs.Evaluation.{with_member_too, with_object};
 ghost use Rattle.live_script.specs.Scripts.{Gives, GivesNobody, IsLine, IsPublication};
 ghost use Rattle.live_script.specs.LineErrors.{IsLineError};
 
@@ -37,7 +37,7 @@ pub struct Script {
 // It is seen as how much was taken, what that declares, the group, and the list of each member.
 impl Model for Script {
     ghost use Rattle.std.specs.Prelude.{map, string_bytes};
-    ghost use Rattle.live_script.specs.Judging.{Reached};
+    ghost use Rattle.live_script.specs.Evaluation.{Reached};
     ghost use Rattle.live_script.specs.Scripts.{IsKept, group_keys, totals_view};
 
     ghost Value = { Reached };
@@ -90,8 +90,8 @@ impl Script {
     ///
     /// Of an input that is too long the line suffices up to the octet that is one too many.
     pub fn take(self, line: &[u8]) -> Result<Script, LineError>
-        ensures taken { IfOk result (λ next. judged self line.now ≡ takes next) }
-        ensures stopped { IfErr result (IsLineError (judged self line.now)) }
+        ensures taken { IfOk result (λ next. evaluated self line.now ≡ takes next) }
+        ensures stopped { IfErr result (IsLineError (evaluated self line.now)) }
     {
         if !self.has_room(line) {
             return Err(LineError::Refused(Refusal::Limit));
@@ -123,10 +123,10 @@ impl Script {
     fn take_stated(self, line: &Line) -> Result<Script, LineError>
         requires { IsLine (stated line.now) }
         ensures taken { IfOk result (λ next. (octets : List ℕ)
-            → judged_line self octets (stated line.now) ≡ counted octets next) }
+            → evaluated_line self octets (stated line.now) ≡ counted octets next) }
         ensures same { IfOk result (λ next. (next.lines ≡ self.lines) × (next.octets ≡ self.octets)) }
         ensures stopped { IfErr result (λ error. (octets : List ℕ)
-            → IsLineError (judged_line self octets (stated line.now)) error) }
+            → IsLineError (evaluated_line self octets (stated line.now)) error) }
     {
         match line {
             Line::Group { name } => self.declare_group(line, name),
@@ -146,13 +146,13 @@ impl Script {
         requires line { IsLine (stated line.now) }
         requires is { stated line.now ≡ statement verb.Group (Named name.now ∷ []) }
         ensures taken { IfOk result (λ next. (octets : List ℕ)
-            → judged_line self octets (stated line.now) ≡ counted octets next) }
+            → evaluated_line self octets (stated line.now) ≡ counted octets next) }
         ensures same { IfOk result (λ next. (next.lines ≡ self.lines) × (next.octets ≡ self.octets)) }
         ensures stopped { IfErr result (λ error. (octets : List ℕ)
-            → IsLineError (judged_line self octets (stated line.now)) error) }
+            → IsLineError (evaluated_line self octets (stated line.now)) error) }
     {
         self.draft.words.check(line)?;
-        name.is_sound();
+        name.cite_soundness();
         self.draft.group = Some(Group::new(self.alloc, name)?);
         Ok(self)
     }
@@ -168,16 +168,16 @@ impl Script {
         requires line { IsLine (stated line.now) }
         requires is { stated line.now ≡ statement verb.Member (Text label.now ∷ Named node.now ∷ Octets key.now ∷ []) }
         ensures taken { IfOk result (λ next. (octets : List ℕ)
-            → judged_line self octets (stated line.now) ≡ counted octets next) }
+            → evaluated_line self octets (stated line.now) ≡ counted octets next) }
         ensures same { IfOk result (λ next. (next.lines ≡ self.lines) × (next.octets ≡ self.octets)) }
         ensures stopped { IfErr result (λ error. (octets : List ℕ)
-            → IsLineError (judged_line self octets (stated line.now)) error) }
+            → IsLineError (evaluated_line self octets (stated line.now)) error) }
     {
         let Some(group) = &mut self.draft.group else {
             return Err(LineError::Refused(Refusal::NoGroup));
         };
         self.draft.words.check(line)?;
-        node.is_sound();
+        node.cite_soundness();
         add_member(group, node, key)?;
         add_list(
             self.alloc,
@@ -201,10 +201,10 @@ impl Script {
         requires is { stated line.now ≡ statement verb.Publish
             (Text m.now ∷ Named name.now ∷ Number size ∷ Octets content.now ∷ []) }
         ensures taken { IfOk result (λ next. (octets : List ℕ)
-            → judged_line self octets (stated line.now) ≡ counted octets next) }
+            → evaluated_line self octets (stated line.now) ≡ counted octets next) }
         ensures same { IfOk result (λ next. (next.lines ≡ self.lines) × (next.octets ≡ self.octets)) }
         ensures stopped { IfErr result (λ error. (octets : List ℕ)
-            → IsLineError (judged_line self octets (stated line.now)) error) }
+            → IsLineError (evaluated_line self octets (stated line.now)) error) }
     {
         self.draft.words.check(line)?;
         let object = object_of(self.alloc, name, size, content)?;
@@ -228,7 +228,7 @@ impl Script {
         let Some(members) = draft.into_members() else {
             return None;
         };
-        members.group.is_sound();
+        members.group.cite_soundness();
         Some(members)
     }
 }

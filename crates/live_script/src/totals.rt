@@ -57,5 +57,5 @@ fn part_count(segments: usize) -> u32
     ensures count { result ≡ publication_parts segments }
     ensures few { result ≤ 20101 }
 {
-    Shape::of(segments as u16).parts_after() + 1
+    Shape::of(segments as u16).last_part() + 1
 }

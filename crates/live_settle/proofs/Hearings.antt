@@ -24,9 +24,9 @@ pub hears_report : (t : Meaning) (ls : List Living) (j p : ℕ) (d e new : Livin
     → octets ≡ sync_of t.group (get_or ls p e).state.number (get_or ls p e).state.known
     → StepsBy t 1000000 (event.Hear octets) (get_or ls j d) new r
     → HearsReport t (at ls p) (at ls j) (at (set ls j new) j)
-hears_report t ls j p d e new octets r there other room reported steps =
+hears_report t ls j p d e new octets r there other room told steps =
     let its : octets ≡ sync_of t.group (at ls p).state.number (at ls p).state.known =
-    reported ∙ ap (λ (m : Living). sync_of t.group m.state.number m.state.known) (at_found ls p e other) in
+    told ∙ ap (λ (m : Living). sync_of t.group m.state.number m.state.known) (at_found ls p e other) in
     let here : StepsBy t 1000000 (event.Hear octets) (at ls j) new r =
     subst (λ (m : Living). StepsBy t 1000000 (event.Hear octets) m new r) (at_found ls j d there) steps in
     let entered : IsEntered t (hearing t (at ls p)) (at ls j) new r =
@@ -40,22 +40,22 @@ hears_report t ls j p d e new octets r there other room reported steps =
 -- ---- one more is heard
 
 module _ (t : Meaning) (j n : ℕ) (ls : List Living) where
-  reported : ℕ → LiveEvent
-  reported p = hearing t (at ls p)
+  told : ℕ → LiveEvent
+  told p = hearing t (at ls p)
 
   other : ℕ → Bool
   other p = not (p == j)
 
   one_more_hearing : (b : Bool) → n == j ≡ b
       → hearings t j (n + 1) ls ≡ hearings t j n ls ++ cond b [] (hearing t (at ls n) ∷ [])
-  unfolding reported other
+  unfolding told other
   one_more_hearing b e =
       ap (λ (k : ℕ). hearings t j k ls) (add-one n)
-      ∙ ap (map reported) (filter-append other (numbers_below n) (n ∷ []))
-      ∙ map-append reported (filter other (numbers_below n)) (filter other (n ∷ []))
-      ∙ ap (λ (b : Bool). hearings t j n ls ++ map reported (cond (not b) (n ∷ []) [])) e
+      ∙ ap (map told) (filter-append other (numbers_below n) (n ∷ []))
+      ∙ map-append told (filter other (numbers_below n)) (filter other (n ∷ []))
+      ∙ ap (λ (b : Bool). hearings t j n ls ++ map told (cond (not b) (n ∷ []) [])) e
       ∙ last b where
-        last : (b : Bool) → hearings t j n ls ++ map reported (cond (not b) (n ∷ []) [])
+        last : (b : Bool) → hearings t j n ls ++ map told (cond (not b) (n ∷ []) [])
             ≡ hearings t j n ls ++ cond b [] (hearing t (at ls n) ∷ [])
         last true = refl
         last false = refl

@@ -36,13 +36,13 @@ pub heard_at : (t : Meaning) (ls : List Living) (j p : ℕ) (d e new : Living) (
     → KnowsThose (whole_logs t) p (at ls j).state.known
     → octets ≡ sync_of t.group (get_or ls p e).state.number (get_or ls p e).state.known
     → StepsBy t 1000000 (event.Hear octets) (get_or ls j d) new r → Hears t j (p + 1) 1 ls (set ls j new)
-heard_at t ls j p d e new octets r ready there other room knows reported steps =
+heard_at t ls j p d e new octets r ready there other room knows told steps =
     let mine = at_found ls j d there in
     let theirs = at_found ls p e other in
     let h : HasHeard t (p + 1) (at ls j) new =
     has_heard t (at ls j) (at ls p) new p octets r (ready.each j there) (ready.each p other)
     (ready.placed.numbers p other) knows room
-    (reported ∙ ap (λ (m : Living). sync_of t.group m.state.number m.state.known) theirs)
+    (told ∙ ap (λ (m : Living). sync_of t.group m.state.number m.state.known) theirs)
     (subst (λ (m : Living). StepsBy t 1000000 (event.Hear octets) m new r) mine steps) in
     let here = at_set ls j new there in
     record {
@@ -62,7 +62,7 @@ heard_itself t ls j p ready there same knows =
     let known : List ℕ = (at ls j).state.known in
     let own : slice_index known p ≡ last_of (whole_logs t) p =
     subst (λ (k : ℕ). slice_index known k ≡ last_of (whole_logs t) k) (ready.placed.numbers j there ∙ sym same)
-    (whole_consistently t 1000000 (at ls j) is.live is.coming).sound.own in
+    (whole_consistently t 1000000 (at ls j) is.live is.unpublished).sound.own in
     record {
       only = only_itself ls j;
       ready = is;

@@ -6,7 +6,7 @@ use Rattle.std.proofs.Math.Seq.{get_or-append_seam, take-append_seam}
 use Rattle.std.proofs.lemmas.Bool.{cases_eq}
 use Rattle.std.proofs.lemmas.List.{length-set, length-map, length-append, get_or-map, get_or-set_same, get_or-set_other}
 use Rattle.std.proofs.lemmas.List.{get_or_default}
-use Rattle.repo_member.specs.MemberState.{member_opening}
+use Rattle.repo_member.specs.MemberState.{initial_member}
 use Rattle.live_member.specs.Meanings.{Meaning}
 use Rattle.live_member.specs.Lives.{Living, living}
 use Rattle.live_settle.specs.Ready.{at, ArePlaced, Continues, KeepPrefixes, Only, IsReady, AreReady}
@@ -14,7 +14,7 @@ use Rattle.live_settle.specs.Rans.{numbers_below}
 use Rattle.live_settle.proofs.Prefixes.{continues_itself, continues_on}
 
 abbrev pub no_living : Living
-no_living = living (member_opening 0 0 0 0) [] []
+no_living = living (initial_member 0 0 0 0) [] []
 
 -- ---- one place
 

@@ -21,18 +21,18 @@ one_in_sum (x ∷ xs) (suc j) =
     let h = one_in_sum xs j in omega (arith, all, h)
 
 -- no more are to come than there are
-few_come : (t : Meaning) (most : ℕ) (l : Living) → IsLive t most l → length l.coming ≤ 200
+few_come : (t : Meaning) (most : ℕ) (l : Living) → IsLive t most l → length l.unpublished ≤ 200
 few_come t most l is =
     let j : ℕ = l.state.number in
-    let all : length (l.state.log ++ as_posts l.coming) ≡ length (as_posts (objects_of t j)) = ap length is.list in
+    let all : length (l.state.log ++ as_posts l.unpublished) ≡ length (as_posts (objects_of t j)) = ap length is.list in
     let one = one_in_sum t.lists j in
     omega (
       arith,
       all,
       one,
       is.within.objects,
-      length-append l.state.log (as_posts l.coming),
-      length-map l.coming (λ (o : NamedContents). Offers o),
+      length-append l.state.log (as_posts l.unpublished),
+      length-map l.unpublished (λ (o : NamedContents). Offers o),
       length-map (objects_of t j) (λ
           (o : NamedContents). Offers o),
     )
@@ -40,20 +40,20 @@ few_come t most l is =
 -- so many objects were published, at most
 pub record IsPublishing (t : Meaning) (n : ℕ) (old l : Living) : Type 0 where
   pub live : IsLive t 1000000 l
-  pub coming : length l.coming + n ≤ 200
+  pub unpublished : length l.unpublished + n ≤ 200
   pub number : l.state.number ≡ old.state.number
   pub few : length l.journal ≤ 900000 + n
   pub prefix : Continues old.journal l.journal
 
 -- of 200 those are left that are still to come
 abbrev pub IsPublishingRest : Meaning → Living → Living → Type 0
-IsPublishingRest t old l = IsPublishing t (200 - length l.coming) old l
+IsPublishingRest t old l = IsPublishing t (200 - length l.unpublished) old l
 
 pub nothing_yet : (t : Meaning) (l : Living) → IsLive t 1000000 l → length l.journal ≤ 900000
     → IsPublishingRest t l l
 nothing_yet t l live room = record {
   live = live;
-  coming = let few = few_come t 1000000 l live in omega (arith, few);
+  unpublished = let few = few_come t 1000000 l live in omega (arith, few);
   number = refl;
   few = omega (arith, room);
   prefix = continues_itself l.journal;
@@ -68,9 +68,9 @@ one_published t old l new octets is next =
     let long = ap length next.entered.entered ∙ length-append l.journal _ in
     record {
       live = next.live;
-      coming = omega (arith, one, is.coming);
+      unpublished = omega (arith, one, is.unpublished);
       number = next.entered.number ∙ is.number;
-      few = omega (arith, one, long, is.few, is.coming);
+      few = omega (arith, one, long, is.few, is.unpublished);
       prefix = continues_on old.journal l.journal new.journal is.prefix prefix;
     }
 
@@ -79,7 +79,7 @@ one_published t old l new octets is next =
 -- the fetchers before this one claim nothing
 pub record IsLosing (t : Meaning) (n : ℕ) (old l : Living) : Type 0 where
   pub live : IsLive t 1000000 l
-  pub coming : l.coming ≡ []
+  pub unpublished : l.unpublished ≡ []
   pub number : l.state.number ≡ old.state.number
   pub few : length l.journal ≤ 900200 + n
   pub prefix : Continues old.journal l.journal
@@ -98,6 +98,6 @@ no_claims_left (suc n) (c ∷ cs) e h =
 pub all_lost : (t : Meaning) (old l : Living) → IsLosing t 16 old l → IsReady t l
 all_lost t old l is = record {
   live = is.live;
-  coming = is.coming;
+  unpublished = is.unpublished;
   claims = no_claims_left 16 l.state.claims is.live.consistent.sound.fetchers is.none;
 }

@@ -43,7 +43,7 @@ module _ (t : Meaning) (most : ℕ) (l new : Living) (live : IsLive t most l) wh
       → in_group new.state
       ≡ in_group (hear_change (hear_verdict t.group l.state octets) (slice_index t.draws l.state.number) l.state)
   hear_state octets r tell is =
-      let law = hear_after t most l.state l.journal l.coming octets
+      let law = hear_after t most l.state l.journal l.unpublished octets
       (slice_index t.draws l.state.number) live tell refl in
       is.changed ∙ sym law.changed
 
@@ -51,20 +51,20 @@ module _ (t : Meaning) (most : ℕ) (l new : Living) (live : IsLive t most l) wh
       → published_packet t.group (whole_logs t) part ≡ Some octets → IsEntered t (event.Accept f part) l new r
       → (in_group new.state ≡ in_group (accept_change part octets f l.state)) × (r ≡ accept_reply part f l.state)
   accept_state f part octets r lent is =
-      let law = accept_after t most l.state l.journal l.coming f part octets live lent in
+      let law = accept_after t most l.state l.journal l.unpublished f part octets live lent in
       (is.changed ∙ sym law.changed, is.replied ∙ sym law.replied)
 
 -- ---- a member whose whole list is published
 
-module _ (t : Meaning) (most : ℕ) (l : Living) (live : IsLive t most l) (coming : l.coming ≡ []) where
+module _ (t : Meaning) (most : ℕ) (l : Living) (live : IsLive t most l) (unpublished : l.unpublished ≡ []) where
   whole_log : logs_at t l.state.number l.state.log ≡ whole_logs t
   whole_log =
       let j : ℕ = l.state.number in
       let there : j < length t.lists = number_there t l.state live.logs live.consistent in
       let log : l.state.log ≡ get_or (whole_logs t) j [] =
       sym (append-nil l.state.log)
-      ∙ ap (λ (cs : List NamedContents). l.state.log ++ as_posts cs) (sym coming)
-      ∙ sym (whole_at t j l.state.log l.coming live.list there) in
+      ∙ ap (λ (cs : List NamedContents). l.state.log ++ as_posts cs) (sym unpublished)
+      ∙ sym (whole_at t j l.state.log l.unpublished live.list there) in
       ap (λ (log : List Post). set (whole_logs t) j log) log ∙ set-get_or (whole_logs t) j []
 
   pub whole_consistently : IsConsistentMember t.group (whole_logs t) l.state
@@ -72,15 +72,15 @@ module _ (t : Meaning) (most : ℕ) (l : Living) (live : IsLive t most l) (comin
 
 -- ---- what is heard
 
-hears_one_more : (ls : Logs) (n : ℕ) (known reported : List ℕ) → KnowsThose ls n known
-    → slice_index reported n ≡ last_of ls n → KnowsThose ls (n + 1) (join known reported)
-hears_one_more ls n known reported knows e p l =
-    let joined : get_or (join known reported) p 0 ≡ max (get_or known p 0) (get_or reported p 0) = join-at known
-    reported p in
+hears_one_more : (ls : Logs) (n : ℕ) (known told : List ℕ) → KnowsThose ls n known
+    → slice_index told n ≡ last_of ls n → KnowsThose ls (n + 1) (join known told)
+hears_one_more ls n known told knows e p l =
+    let joined : get_or (join known told) p 0 ≡ max (get_or known p 0) (get_or told p 0) = join-at known
+    told p in
     elim (cases_eq p n) [
       | inl same ↦
-          let here : get_or reported p 0 ≡ last_of ls p =
-          subst (λ (k : ℕ). get_or reported k 0 ≡ last_of ls k) (sym same) e in
+          let here : get_or told p 0 ≡ last_of ls p =
+          subst (λ (k : ℕ). get_or told k 0 ≡ last_of ls k) (sym same) e in
           omega (arith, joined, here)
       | inr d ↦
           let h : last_of ls p ≤ get_or known p 0 = knows p (omega (arith, l, d)) in
@@ -99,10 +99,10 @@ pub has_heard : (t : Meaning) (l other new : Living) (p : ℕ) (octets : List �
     → IsReady t other → other.state.number ≡ p → KnowsThose (whole_logs t) p l.state.known
     → length l.journal < 1000000 → octets ≡ sync_of t.group other.state.number other.state.known
     → StepsBy t 1000000 (event.Hear octets) l new r → HasHeard t (p + 1) l new
-has_heard t l other new p octets r is others number knows room reported steps =
+has_heard t l other new p octets r is others number knows room told steps =
     let ls : Logs = whole_logs t in
-    let consistent = whole_consistently t 1000000 l is.live is.coming in
-    let theirs = whole_consistently t 1000000 other others.live others.coming in
+    let consistent = whole_consistently t 1000000 l is.live is.unpublished in
+    let theirs = whole_consistently t 1000000 other others.live others.unpublished in
     let v : IsConsistentVector ls other.state.known =
     record { width = theirs.sound.width; no_more = theirs.sound.known } in
     let tell : IsReport t octets = record {
@@ -110,10 +110,10 @@ has_heard t l other new p octets r is others number knows room reported steps =
       vector = other.state.known;
       there = omega (arith, theirs.there, width_whole t);
       consistent = v;
-      reported = reported;
+      told = told;
     } in
     let taken : hear_verdict t.group l.state octets ≡ Ok other.state.known =
-    ap (hear_verdict t.group l.state) reported
+    ap (hear_verdict t.group l.state) told
     ∙ syncs_are_taken t.group ls l.state other.state.number other.state.known is.live.within.logs consistent
     (omega (arith, theirs.there, is.live.within.logs.width)) v in
     let entered : IsEntered t (event.Hear octets) l new r = (steps.1 room).0 in
@@ -124,7 +124,7 @@ has_heard t l other new p octets r is others number knows room reported steps =
     record {
       ready = record {
         live = steps.2;
-        coming = (steps.1 room).1 ∙ is.coming;
+        unpublished = (steps.1 room).1 ∙ is.unpublished;
         claims = ap (λ (m : Member). m.claims) state ∙ is.claims;
       };
       number = entered.number;

@@ -17,7 +17,7 @@ use Rattle.repo_plan.proofs.Orders.{exact_parts}
 use Rattle.sorted_lists.proofs.Sets.{contains_in, in_contains}
 use Rattle.repo_plan.proofs.Known.{contains-unclaimed}
 use Rattle.group_model.specs.Publications.{Logs, last_of, count, all_parts, join_of}
-use Rattle.group_model.specs.Member.{Member, plan_of, member_holds, member_hides, catalogue}
+use Rattle.group_model.specs.Member.{Member, plan_of, member_holds, has_deleted, catalogue}
 use Rattle.group_model.specs.Changes.{takes}
 use Rattle.group_model.specs.OneMember.{KnowsAll}
 use Rattle.group_model.specs.Sound.{IsPublished, IsPublishedPart}
@@ -94,7 +94,7 @@ module _ (t : Meaning) (l : Living) (is : IsGathering t l) where
   are = is.ready.live.within.logs
 
   consistent : IsConsistentMember t.group ls a
-  consistent = whole_consistently t 1000000 l is.ready.live is.ready.coming
+  consistent = whole_consistently t 1000000 l is.ready.live is.ready.unpublished
 
   same_plan : member_plan a ≡ plan_of ls (in_group a)
   same_plan = plans_alike t.group ls a are (consistent_stores t.group ls a consistent)
@@ -134,7 +134,7 @@ module _ (t : Meaning) (l : Living) (is : IsGathering t l) where
         let mine = subst
         (λ (j : ℕ).
         (s : ℕ) → IsPublished ls (j, s)
-        → (member_hides (in_group a) (j, s) ≡ true)
+        → (has_deleted (in_group a) (j, s) ≡ true)
         ⊎ ((x : ℕ) → x ≤ count ls (j, s) → member_holds (in_group a) (part_of (j, s) x) ≡ true))
         (sym own) consistent.sound.own_held in
         elim (mine part.seq there.there) [
@@ -148,7 +148,7 @@ module _ (t : Meaning) (l : Living) (is : IsGathering t l) where
         → IsSomeAnd (logged t.group b.state part) (λ octets. published_packet t.group ls part ≡ Some octets)
     lends b ready own =
         subst (λ (o : Option (List ℕ)). IsSomeAnd o (λ octets. published_packet t.group ls part ≡ Some octets))
-        (sym (logs_those t.group ls b.state part (whole_consistently t 1000000 b ready.live ready.coming) own
+        (sym (logs_those t.group ls b.state part (whole_consistently t 1000000 b ready.live ready.unpublished) own
         there.there))
         (go (published_packet t.group ls part) refl (packets_are_there t.group ls part are there)) where
           go : (o : Option (List ℕ)) → published_packet t.group ls part ≡ o
@@ -201,7 +201,7 @@ module _ (t : Meaning) (l new : Living) (r : LiveReply) (is : IsGathering t l) (
       claimed.0 ∙ ap (λ (c : Option Part). in_group (member_claims 1 c l.state)) nothing in
       let ready : IsReady t new = record {
         live = steps.2;
-        coming = (steps.1 room).1 ∙ is.ready.coming;
+        unpublished = (steps.1 room).1 ∙ is.ready.unpublished;
         claims = ap (λ (m : Member). m.claims) state
             ∙ ap (λ (cs : List (Option Part)). set cs 0 None) is.ready.claims;
       } in
@@ -211,10 +211,10 @@ module _ (t : Meaning) (l new : Living) (r : LiveReply) (is : IsGathering t l) (
         ready = ready;
         catalogue =
             lists_alike t.group ls new.state logs
-            (consistent_stores t.group ls new.state (whole_consistently t 1000000 new ready.live ready.coming))
+            (consistent_stores t.group ls new.state (whole_consistently t 1000000 new ready.live ready.unpublished))
             ∙ ap (λ (m : Member). catalogue ls m) state
             ∙ sym (lists_alike t.group ls l.state logs
-            (consistent_stores t.group ls l.state (whole_consistently t 1000000 l is.ready.live is.ready.coming)))
+            (consistent_stores t.group ls l.state (whole_consistently t 1000000 l is.ready.live is.ready.unpublished)))
             ∙ joined t l is nothing;
       }
 
@@ -295,7 +295,7 @@ module _ (t : Meaning) (l mid new : Living) (r s : LiveReply) (part : Part) (len
     gathering = record {
       ready = record {
         live = accepted.2;
-        coming = (accepted.1 less_too).1 ∙ (claim.1 less).1 ∙ is.ready.coming;
+        unpublished = (accepted.1 less_too).1 ∙ (claim.1 less).1 ∙ is.ready.unpublished;
         claims = ap (λ (m : Member). m.claims) taken
             ∙ ap (λ (cs : List (Option Part)). set (set cs 0 (Some part)) 0 None) is.ready.claims;
       };

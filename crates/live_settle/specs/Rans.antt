@@ -5,7 +5,7 @@ use Rattle.group_model.specs.Publications.{join_of}
 use Rattle.repo_member.specs.ConsistentMembers.{IsConsistentMember}
 use Rattle.repo_holdings.specs.Listed.{member_catalogue}
 use Rattle.live_member.specs.Meanings.{Meaning, whole_logs}
-use Rattle.live_member.specs.Lives.{Living, BringParts, ReplaysTo}
+use Rattle.live_member.specs.Lives.{Living, AreOfPublishedParts, ReplaysTo}
 use Rattle.live_settle.specs.declared.ran.Ran.{Ran}
 use Rattle.live_settle.specs.Ready.{at, Continues}
 
@@ -19,7 +19,7 @@ numbers_below (suc n) = numbers_below n ++ n ∷ []
 -- catalogue is the join of all lists.
 pub record IsRan (t : Meaning) (r : Ran) : Type 0 where
   pub replays : ReplaysTo t r.journal.items r.member
-  pub brought : BringParts t r.journal.items
+  pub brought : AreOfPublishedParts t r.journal.items
   pub consistent : IsConsistentMember t.group (whole_logs t) r.member
   pub catalogue : member_catalogue r.member.store ≡ join_of (whole_logs t)
 

@@ -8,7 +8,7 @@ use Rattle.repo_plan.specs.Parts.{part_cmp}
 use Rattle.repo_plan.specs.Plan.{no_claims, claim_of}
 use Rattle.group_model.specs.Publications.{Logs, last_of, all_parts, join_of}
 use Rattle.group_model.specs.OneMember.{KnowsAll}
-use Rattle.repo_member.specs.MemberState.{MemberState, member_opening, member_plan, member_claims}
+use Rattle.repo_member.specs.MemberState.{MemberState, initial_member, member_plan, member_claims}
 use Rattle.repo_holdings.specs.Listed.{member_catalogue}
 use Rattle.live_member.specs.declared.event.LiveEvent.TheVariants as event
 use Rattle.live_member.specs.declared.event.LiveReply.TheVariants as reply
@@ -20,7 +20,7 @@ use Rattle.live_member.specs.LockedCalls.{entry}
 
 -- The member at a place.
 abbrev pub at : List Living → ℕ → Living
-at ls p = slice_index_or ls p (living (member_opening 0 0 0 0) [] [])
+at ls p = slice_index_or ls p (living (initial_member 0 0 0 0) [] [])
 
 -- Each member is live, with at most 1,000,000 entries in its journal.
 abbrev pub AreLive : Meaning → List Living → Type 0
@@ -60,14 +60,14 @@ pub record Loses (t : Meaning) (f : ℕ) (old new : Living) : Type 0 where
   pub none : claim_of (member_plan old.state) f ≡ None → new ≡ old
   pub claims : new.state.claims ≡ (member_claims f None old.state).claims
   pub number : new.state.number ≡ old.state.number
-  pub coming : new.coming ≡ old.coming
+  pub unpublished : new.unpublished ≡ old.unpublished
   pub entries : length new.journal ≤ length old.journal + 1
   pub prefix : Continues old.journal new.journal
 
 -- A member whose whole list is published, and of which no fetcher claims a part.
 pub record IsReady (t : Meaning) (l : Living) : Type 0 where
   pub live : IsLive t 1000000 l
-  pub coming : l.coming ≡ []
+  pub unpublished : l.unpublished ≡ []
   pub claims : l.state.claims ≡ no_claims
 
 -- All members are in their places, and each is ready for a settle.

@@ -69,7 +69,7 @@ fn hear_one<L: Lists>(
     if p == j {
         return Ok(());
     }
-    let reported = lives[p].tell(alloc, g)?;
-    lives[j].hear(g, &reported)?;
+    let told = lives[p].tell(alloc, g)?;
+    lives[j].hear(g, &told)?;
     Ok(())
 }

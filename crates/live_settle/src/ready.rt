@@ -46,7 +46,7 @@ fn publish_rest<L: Lists>(g: &Group, live: &mut Live<L, 1000000>) -> Result<(), 
     requires live { IsLive L.meaning 1000000 live.old }
     requires room { length live.old.journal ≤ 900000 }
     ensures live { OnOk result (IsLive L.meaning 1000000 live.new) }
-    ensures coming { OnOk result (live.new.coming ≡ []) }
+    ensures unpublished { OnOk result (live.new.unpublished ≡ []) }
     ensures number { OnOk result (live.new.state.number ≡ live.old.state.number) }
     ensures entries { OnOk result (length live.new.journal ≤ 900200) }
     ensures prefix { OnOk result (Continues live.old.journal live.new.journal) }
@@ -58,7 +58,7 @@ fn publish_rest<L: Lists>(g: &Group, live: &mut Live<L, 1000000>) -> Result<(), 
 // Each held claim ends.
 fn lose_claims<L: Lists>(g: &Group, live: &mut Live<L, 1000000>) -> Result<(), AllocError>
     requires live { IsLive L.meaning 1000000 live.old }
-    requires coming { live.old.coming ≡ [] }
+    requires unpublished { live.old.unpublished ≡ [] }
     requires room { length live.old.journal ≤ 900200 }
     ensures ready { OnOk result (IsReady L.meaning live.new) }
     ensures number { OnOk result (live.new.state.number ≡ live.old.state.number) }

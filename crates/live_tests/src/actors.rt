@@ -22,7 +22,7 @@ fn published<L: Lists>(
     requires { g.now ≡ L.meaning.group }
 {
     match live.publish_next(g).expect(rt, "memory") {
-        NextTold::Told(reported) => reported,
+        NextTold::Told(told) => told,
         _ => panic!(rt; "an object"),
     }
 }

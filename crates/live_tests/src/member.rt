@@ -21,9 +21,9 @@ const fn part(seq: u16, part: u16) -> Part {
 }
 
 // What reports a publication, if there was one.
-fn reported<L: Lists>(next: NextTold<L>) -> Option<Told<L>> {
+fn told<L: Lists>(next: NextTold<L>) -> Option<Told<L>> {
     match next {
-        NextTold::Told(reported) => Some(reported),
+        NextTold::Told(told) => Some(told),
         _ => None,
     }
 }
@@ -53,7 +53,7 @@ fn publish_first<L: Lists>(
             .expect(rt, "memory")
             .is_none()
     );
-    let first = reported(alice.publish_next(g).expect(rt, "memory")).expect(rt, "a publication");
+    let first = told(alice.publish_next(g).expect(rt, "memory")).expect(rt, "a publication");
     assert!(rt; first.octets() == alice.tell(rt.alloc(), g).expect(rt, "memory").octets());
     assert!(rt; first.octets() != early.octets());
     assert!(rt; matches!(alice.publish_next(g), Ok(NextTold::Full)));
@@ -108,7 +108,7 @@ fn publish_second<L: Lists>(
 )
     requires { g.now ≡ L.meaning.group }
 {
-    let second = reported(alice.publish_next(g).expect(rt, "memory")).expect(rt, "a publication");
+    let second = told(alice.publish_next(g).expect(rt, "memory")).expect(rt, "a publication");
     assert!(rt; matches!(alice.publish_next(g), Ok(NextTold::Done)));
     let earlier = bob.tell(rt.alloc(), g).expect(rt, "memory");
     assert!(rt; alice.hear(g, &earlier) == Ok(LiveReply::Suppressed));

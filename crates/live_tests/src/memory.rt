@@ -30,9 +30,9 @@ pub(crate) fn mark(octets: &[u8]) -> u64 {
     sum
 }
 
-fn mark_of<L: Lists>(reported: &Option<Told<L>>) -> Option<u64> {
-    match reported {
-        Some(reported) => Some(mark(reported.octets())),
+fn mark_of<L: Lists>(told: &Option<Told<L>>) -> Option<u64> {
+    match told {
+        Some(told) => Some(mark(told.octets())),
         None => None,
     }
 }
@@ -88,42 +88,42 @@ impl<L: Lists> Places<L> for Memory<L> {
     }
 
     fn publish_next(&mut self, member: u32) -> Result<Option<Told<L>>, AllocError> {
-        let reported = self.objects.pop();
-        self.seen.push(Seen::Publish(member, mark_of(&reported)))?;
+        let told = self.objects.pop();
+        self.seen.push(Seen::Publish(member, mark_of(&told)))?;
         self.calls.push(Snapshot::of(&Noted::Publish {
             member,
-            reported: Snapshot::of(&reported),
+            told: Snapshot::of(&told),
         }))?;
-        if reported.is_none() {
+        if told.is_none() {
             self.left -= 1;
         }
-        Ok(reported)
+        Ok(told)
     }
 
-    fn tell(&mut self, other: u32, reported: &Told<L>) -> Result<(), AllocError> {
-        self.seen.push(Seen::Tell(other, mark(reported.octets())))?;
+    fn tell(&mut self, other: u32, told: &Told<L>) -> Result<(), AllocError> {
+        self.seen.push(Seen::Tell(other, mark(told.octets())))?;
         self.calls.push(Snapshot::of(&Noted::Tell {
             other,
-            reported: Snapshot::of(reported),
+            told: Snapshot::of(told),
         }))?;
         Ok(())
     }
 
     fn take(&mut self) -> Result<Option<Told<L>>, AllocError> {
-        let reported = self.inbox.pop();
-        self.seen.push(Seen::Take(mark_of(&reported)))?;
+        let told = self.inbox.pop();
+        self.seen.push(Seen::Take(mark_of(&told)))?;
         self.calls.push(Snapshot::of(&Noted::Take {
-            reported: Snapshot::of(&reported),
+            told: Snapshot::of(&told),
         }))?;
-        Ok(reported)
+        Ok(told)
     }
 
-    fn hear(&mut self, member: u32, reported: &Told<L>) -> Result<LiveReply, AllocError> {
+    fn hear(&mut self, member: u32, told: &Told<L>) -> Result<LiveReply, AllocError> {
         let replied = LiveReply::Steady;
-        self.seen.push(Seen::Hear(member, mark(reported.octets())))?;
+        self.seen.push(Seen::Hear(member, mark(told.octets())))?;
         self.calls.push(Snapshot::of(&Noted::Hear {
             member,
-            reported: Snapshot::of(reported),
+            told: Snapshot::of(told),
             replied,
         }))?;
         Ok(replied)

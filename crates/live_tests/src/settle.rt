@@ -39,8 +39,8 @@ fn begin<L: Lists>(
 {
     let next = alice.publish_next(g).expect(rt, "memory");
     assert!(rt; matches!(next, NextTold::Told(_)));
-    let reported = alice.tell(rt.alloc(), g).expect(rt, "memory");
-    assert!(rt; bob.hear(g, &reported) == Ok(LiveReply::Steady));
+    let told = alice.tell(rt.alloc(), g).expect(rt, "memory");
+    assert!(rt; bob.hear(g, &told) == Ok(LiveReply::Steady));
     let part = part(ALICE, 1, 0);
     assert!(rt; bob.claim(g, 2) == Ok(LiveReply::Claimed { part }));
 }

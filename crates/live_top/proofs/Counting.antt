@@ -22,11 +22,12 @@ use Rattle.script_lang.specs.Lines.{line_of}
 use Rattle.script_lang.specs.Checking.{Declared, after_line}
 use Rattle.script_report.specs.declared.refusal.Refusal.{Refusal}
 use Rattle.script_report.specs.declared.refusal.Refusal.TheVariants as refusal
-use Rattle.live_script.specs.Judging.{Reached, Verdict, check_refused, checked, counted, cut_object, is_few}
-use Rattle.live_script.specs.Judging.{is_within_input}
-use Rattle.live_script.specs.Judging.{judged, judged_line, judged_read, may_stand, member_number, refused, taken_by}
-use Rattle.live_script.specs.Judging.{takes}
-use Rattle.live_script.specs.Judging.{unjudged, with_object}
+use Rattle.live_script.specs.Evaluation.{Reached, Verdict, check_refused, checked, counted, cut_object, is_few}
+use Rattle.live_script.specs.Evaluation.{is_within_input}
+use Rattle.live_script.specs.Evaluation.{evaluated, evaluated_line, evaluated_read, may_stand, member_number, refused}
+use Rattle.live_script.specs.Evaluation.{taken_by}
+use Rattle.live_script.specs.Evaluation.{takes}
+use Rattle.live_script.specs.Evaluation.{not_evaluated, with_object}
 use Rattle.live_top.specs.Outcomes.{Refused, Taken, outcome_after, outcome_from, outcome_of}
 
 -- ---- octets that are taken
@@ -35,7 +36,7 @@ use Rattle.live_top.specs.Outcomes.{Refused, Taken, outcome_after, outcome_from,
 abbrev Counts : Reached → List ℕ → Verdict → Type 0
 Counts r line (refused why) = Unit {0}
 Counts r line (takes next) = next.octets ≡ r.octets + length line
-Counts r line unjudged = Unit {0}
+Counts r line not_evaluated = Unit {0}
 
 few_counts : (b : Bool) (r : Reached) (line : List ℕ) (next : Reached) → next.octets ≡ r.octets
     → Counts r line (if b then counted line next else refused refusal.TooLarge)
@@ -59,8 +60,8 @@ check_counts r line check_fault.Limit = tt
 check_counts r line check_fault.TooLarge = tt
 check_counts r line check_fault.NoMemory = tt
 
-line_counts : (r : Reached) (line : List ℕ) (s : Stated) → Counts r line (judged_line r line s)
-unfolding judged_line
+line_counts : (r : Reached) (line : List ℕ) (s : Stated) → Counts r line (evaluated_line r line s)
+unfolding evaluated_line
 line_counts r line s = by_verb (may_stand s.verb) where
   by_check : (c : Result Declared CheckFault) → Counts r line (checked r line s c)
   by_check (Ok d) = taken_counts s.verb r line d s.values
@@ -72,7 +73,7 @@ line_counts r line s = by_verb (may_stand s.verb) where
   by_verb false = tt
 
 read_counts : (r : Reached) (line : List ℕ) (l : Result (Option Stated) LineFault)
-    → Counts r line (judged_read r line l)
+    → Counts r line (evaluated_read r line l)
 read_counts r line (Ok (Some s)) = line_counts r line s
 read_counts r line (Ok None) = refl
 read_counts r line (Err line_fault.Syntax) = tt
@@ -84,10 +85,10 @@ record IsCounted (r : Reached) (line : List ℕ) (next : Reached) : Type 0 where
   octets : next.octets ≡ r.octets + length line
   within : r.octets + length line ≤ 16777216
 
-counted_line : (r : Reached) (line : List ℕ) (next : Reached) → judged r line ≡ takes next → IsCounted r line next
+counted_line : (r : Reached) (line : List ℕ) (next : Reached) → evaluated r line ≡ takes next → IsCounted r line next
 counted_line r line next is = go (is_within_input r line) refl is where
   go : (b : Bool) → is_within_input r line ≡ b
-      → (if b then judged_read r line (line_of line) else refused refusal.Limit) ≡ takes next → IsCounted r line next
+      → (if b then evaluated_read r line (line_of line) else refused refusal.Limit) ≡ takes next → IsCounted r line next
   go true fits h = record {
     octets = subst (Counts r line) h (read_counts r line (line_of line));
     within = le_tested (r.octets + length line) 16777216 (and_parts (nat_lt r.lines 100000) _ fits).1;
@@ -95,10 +96,10 @@ counted_line r line next is = go (is_within_input r line) refl is where
   go false fits h = absurd cc
 
 -- A line that goes beyond the limit is refused for it.
-too_long : (r : Reached) (line : List ℕ) → 16777216 < r.octets + length line → judged r line ≡ refused refusal.Limit
+too_long : (r : Reached) (line : List ℕ) → 16777216 < r.octets + length line → evaluated r line ≡ refused refusal.Limit
 too_long r line more = go (is_within_input r line) refl where
   go : (b : Bool) → is_within_input r line ≡ b
-      → (if b then judged_read r line (line_of line) else refused refusal.Limit) ≡ refused refusal.Limit
+      → (if b then evaluated_read r line (line_of line) else refused refusal.Limit) ≡ refused refusal.Limit
   go true fits =
       let few = le_tested (r.octets + length line) 16777216 (and_parts (nat_lt r.lines 100000) _ fits).1 in
       absurd (omega (arith, few, more))
@@ -111,8 +112,8 @@ taken_within : (r : Reached) (ls : List (List ℕ)) (end : Reached) → outcome_
 unfolding outcome_from
 taken_within r [] end is few = omega (arith, few)
 taken_within r (line ∷ ls) end is few =
-    go (judged r line) refl is (λ next h less. taken_within next ls end h less) where
-      go : (v : Verdict) → judged r line ≡ v
+    go (evaluated r line) refl is (λ next h less. taken_within next ls end h less) where
+      go : (v : Verdict) → evaluated r line ≡ v
           → outcome_after (λ next. outcome_from next ls) (r.lines + 1) v ≡ Taken end
           → ((next : Reached) → outcome_from next ls ≡ Taken end → next.octets ≤ 16777216
           → next.octets + length (concat ls) ≤ 16777216)
@@ -122,7 +123,7 @@ taken_within r (line ∷ ls) end is few =
           let one = counted_line r line next j in
           let rest = others next h (omega (arith, one.octets, one.within)) in
           omega (arith, rest, one.octets, length-append line (concat ls))
-      go unjudged j h others = absurd cc
+      go not_evaluated j h others = absurd cc
 
 pub input_within : (input : List ℕ) (end : Reached) → outcome_of input ≡ Taken end → length input ≤ 16777216
 input_within input end is =
@@ -157,8 +158,8 @@ refused_longer r (line ∷ []) after n why (inr unended) more is =
 refused_longer r (line ∷ next ∷ ls) after n why are more is =
     let cut : lines ((line ++ concat (next ∷ ls)) ++ after) ≡ line ∷ lines (concat (next ∷ ls) ++ after) =
     ap lines (append_assoc line (concat (next ∷ ls)) after) ∙ whole_first line (concat (next ∷ ls) ++ after) are.0 in
-    rw cut (go (judged r line) refl is (λ m long h. refused_longer m (next ∷ ls) after n why are.1 long h)) where
-      go : (v : Verdict) → judged r line ≡ v
+    rw cut (go (evaluated r line) refl is (λ m long h. refused_longer m (next ∷ ls) after n why are.1 long h)) where
+      go : (v : Verdict) → evaluated r line ≡ v
           → outcome_after (λ m. outcome_from m (next ∷ ls)) (r.lines + 1) v ≡ Refused n why
           → ((m : Reached) → 16777216 < m.octets + length (concat (next ∷ ls))
           → outcome_from m (next ∷ ls) ≡ Refused n why
@@ -168,7 +169,7 @@ refused_longer r (line ∷ next ∷ ls) after n why are more is =
       go (takes m) j h others =
           let one = counted_line r line m j in
           others m (omega (arith, more, one.octets, length-append line (concat (next ∷ ls)))) h
-      go unjudged j h others = absurd cc
+      go not_evaluated j h others = absurd cc
 
 -- An input that is refused and longer than any may be is refused so however it goes on.
 pub refused_whole : (input after : List ℕ) (n : ℕ) (why : Refusal) → 16777216 < length input

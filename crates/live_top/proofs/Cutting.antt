@@ -10,7 +10,7 @@ use Rattle.live_script.specs.declared.error.LineError.{LineError}
 use Rattle.live_script.specs.declared.error.LineError.TheVariants as error
 use Rattle.live_script.specs.LineErrors.{IsLineError}
 use Rattle.live_top.specs.Inputs.{Stops, halt_at}
-use Rattle.live_script.specs.Judging.{Reached, judged, takes}
+use Rattle.live_script.specs.Evaluation.{Reached, evaluated, takes}
 use Rattle.live_top.specs.Outcomes.{Outcome, Taken, outcome_from}
 
 -- ---- the first line
@@ -49,12 +49,12 @@ whole_line octets prefix back f b is =
 -- ---- what lines come to
 
 pub taken_on : (o : Outcome) (r next : Reached) (octets line after : List ℕ) → o ≡ outcome_from r (lines octets)
-    → lines octets ≡ line ∷ lines after → judged r line ≡ takes next → o ≡ outcome_from next (lines after)
+    → lines octets ≡ line ∷ lines after → evaluated r line ≡ takes next → o ≡ outcome_from next (lines after)
 unfolding outcome_from
 taken_on o r next octets line after so_far cut is = so_far ∙ rw (cut, is) refl
 
 pub stops_at : (o : Outcome) (r : Reached) (octets line after : List ℕ) (s : LineError)
-    → o ≡ outcome_from r (lines octets) → lines octets ≡ line ∷ lines after → IsLineError (judged r line) s
+    → o ≡ outcome_from r (lines octets) → lines octets ≡ line ∷ lines after → IsLineError (evaluated r line) s
     → Stops o (halt_at (r.lines + 1) s)
 unfolding outcome_from
 stops_at o r octets line after (error.Refused why) so_far cut is = so_far ∙ rw (cut, is) refl

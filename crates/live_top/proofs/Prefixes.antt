@@ -10,7 +10,7 @@ use Rattle.repo_io.specs.declared.status.Status.TheVariants as status
 use Rattle.repo_io.specs.Outside.{GainsText}
 use Rattle.repo_io.proofs.Outputs.{prefix_as, prefix_whole}
 use Rattle.script_report.specs.declared.refusal.Refusal.{Refusal}
-use Rattle.live_script.specs.Judging.{Reached, is_of_live}
+use Rattle.live_script.specs.Evaluation.{Reached, is_of_live}
 use Rattle.script_report.specs.Refusals.{refusal_text}
 use Rattle.live_top.specs.Answers.{Refuses, Runs, SaysRefused, WritesPrefix}
 use Rattle.live_top.specs.Inputs.{IsRead}

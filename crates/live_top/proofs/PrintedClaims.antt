@@ -11,14 +11,14 @@ use Rattle.repo_plan.specs.Plan.{is_wanted, is_unclaimed, known_parts, unclaimed
 use Rattle.repo_object.specs.Objects.Post.{Offers}
 use Rattle.repo_member.specs.Verdicts.{group_verdict}
 use Rattle.repo_member.proofs.PublicLaws.{long_join}
-use Rattle.group_model.specs.Events.{SyncInterest, Came}
-use Rattle.group_model.specs.Events.Came.{Nothing, Its, Another}
+use Rattle.group_model.specs.Events.{SyncInterest, Response}
+use Rattle.group_model.specs.Events.Response.{Nothing, Its, Another}
 use Rattle.group_model.specs.Publications.{Logs}
 use Rattle.group_model.specs.Member.{Member, plan_of}
 use Rattle.group_model.specs.Changes.{publishes, learns, member_with_claim, takes}
 use Rattle.group_model.specs.World.{World, member, with_member, no_member, logs}
-use Rattle.group_model.specs.Steps.{claim_at, to_claim, after_claiming, after_hear, after_came}
-use Rattle.group_model.specs.Steps.{came_as, drawn, reports_too_much, after_deliver}
+use Rattle.group_model.specs.Steps.{claim_at, to_claim, after_claiming, after_hear, after_response}
+use Rattle.group_model.specs.Steps.{response_read, drawn, exceeds_log, after_deliver}
 use Rattle.group_model.proofs.Lists.{from_filter, in_first}
 use Rattle.group_model.proofs.Plans.{wanted_parts}
 use Rattle.live_member.specs.declared.event.LiveEvent.{LiveEvent}
@@ -105,7 +105,7 @@ module _ (t : Meaning) (j : ℕ) (there : j < length t.lists) (m : Member) where
 
   hears : (read : Option SyncInterest) → GoesOn m (member (after_hear (environment t) w j read) j)
   hears None = same_as_before
-  hears (Some sync) = go (reports_too_much w j sync) where
+  hears (Some sync) = go (exceeds_log w j sync) where
     go : (ahead : Bool)
         → GoesOn m (member (if ahead then w else after_deliver (environment t) w j sync.vector) j)
     go true = same_as_before
@@ -118,7 +118,8 @@ module _ (t : Meaning) (j : ℕ) (there : j < length t.lists) (m : Member) where
       becomes (member_with_claim f (Some part) (member w j))
       (claims_on f (Some part) (member w j) (open_below (logs w) (member w j) (Some part) is))
 
-  comes : (f : ℕ) (c : Option Part) (came : Came) → GoesOn m (member (after_came (environment t) w j f c came) j)
+  comes : (f : ℕ) (c : Option Part) (came : Response)
+      → GoesOn m (member (after_response (environment t) w j f c came) j)
   comes f None came = same_as_before
   comes f (Some part) Nothing = same_as_before
   comes f (Some part) Its = becomes (takes f part (member w j)) (takes_on f part (member w j))
@@ -136,7 +137,7 @@ module _ (t : Meaning) (j : ℕ) (there : j < length t.lists) (m : Member) where
       })
   goes_on (event.Hear octets) = hears (sync_read (group_verdict t.group octets))
   goes_on (event.Claim f) = unless (is_some (claim_at w j f)) _ (claims f (to_claim w j) refl)
-  goes_on (event.Accept f part) = comes f (claim_at w j f) (came_as w (fed part) (claim_at w j f))
+  goes_on (event.Accept f part) = comes f (claim_at w j f) (response_read w (fed part) (claim_at w j f))
   goes_on (event.Lose f) =
       unless (is_none (claim_at w j f)) _
       (becomes (member_with_claim f None (member w j)) (claims_on f None (member w j) tt))

@@ -15,7 +15,7 @@ use Rattle.group_model.specs.Member.{Member}
 use Rattle.group_model.specs.Events.{SyncInterest}
 use Rattle.group_model.specs.Replies.{Reply, heard_reply, hear_reply}
 use Rattle.group_model.specs.World.{World}
-use Rattle.group_model.specs.Steps.{claim_at, to_claim, reports_too_much, after_deliver, mode_at, came_as}
+use Rattle.group_model.specs.Steps.{claim_at, to_claim, exceeds_log, after_deliver, mode_at, response_read}
 use Rattle.group_model.specs.Steps.{passes_checks}
 use Rattle.group_model.specs.Steps.{hear_outcome}
 use Rattle.live_member.specs.declared.event.LiveEvent.{LiveEvent}
@@ -25,7 +25,7 @@ use Rattle.live_member.specs.declared.event.LiveReply.TheVariants as reply
 use Rattle.live_member.specs.declared.event.LiveEntry.{LiveEntry}
 use Rattle.live_member.specs.Meanings.{Meaning, world_at, environment}
 use Rattle.live_member.specs.Replay.{Replays, after, reply_of, live_reply, sync_read, fed}
-use Rattle.live_member.specs.Lives.{opening}
+use Rattle.live_member.specs.Lives.{initial_live_member}
 use Rattle.live_settle.specs.declared.ran.Ran.{Ran}
 use Rattle.live_top.specs.Journals.{line_of_entry}
 use Rattle.live_top.specs.Printed.{HasLine, JournalsArePrintedWhole}
@@ -71,13 +71,14 @@ module _ (t : Meaning) (j : ℕ) where
       → IsPrinted (event.Hear octets) (live_reply (hear_reply read (hear_outcome (environment t) (w m) j read)))
   hears m octets None = λ labels. some_line _ _
   hears m octets (Some sync) =
-      heard octets (reports_too_much (w m) j sync) _ (mode_at (after_deliver (environment t) (w m) j sync.vector) j)
+      heard octets (exceeds_log (w m) j sync) _ (mode_at (after_deliver (environment t) (w m) j sync.vector) j)
 
   printed_of : (m : Member) (e : LiveEvent) → IsPrinted e (reply_of t j m e)
   printed_of m event.Publish = λ labels. some_line _ _
   printed_of m (event.Hear octets) = hears m octets (sync_read (group_verdict t.group octets))
   printed_of m (event.Claim f) = claimed f (is_some (claim_at (w m) j f)) (to_claim (w m) j)
-  printed_of m (event.Accept f part) = fed_on f part (passes_checks (came_as (w m) (fed part) (claim_at (w m) j f)))
+  printed_of m (event.Accept f part) =
+      fed_on f part (passes_checks (response_read (w m) (fed part) (claim_at (w m) j f)))
   printed_of m (event.Lose f) = lost f (claim_at (w m) j f)
 
   each_printed : (es : List LiveEntry) (from to : Member) → Replays t j es from to → All HasLine es
@@ -89,4 +90,4 @@ module _ (t : Meaning) (j : ℕ) where
 pub printed_whole : JournalsArePrintedWhole
 printed_whole t rans are k d less =
     let r : Ran = d in
-    each_printed t _ _ (in_group (opening t _)) _ (are.each k r less).replays
+    each_printed t _ _ (in_group (initial_live_member t _)) _ (are.each k r less).replays

@@ -24,7 +24,7 @@ use Rattle.live_member.specs.declared.event.LiveReply.TheVariants as reply
 use Rattle.live_member.specs.declared.event.LiveEntry.{LiveEntry}
 use Rattle.live_member.specs.Meanings.{Meaning, as_posts, whole_logs, world_at}
 use Rattle.live_member.specs.Replay.{Replays, after, reply_of, live_reply}
-use Rattle.live_member.specs.Lives.{BringsPart, opening}
+use Rattle.live_member.specs.Lives.{IsOfPublishedPart, initial_live_member}
 use Rattle.live_settle.specs.declared.ran.Ran.{Ran}
 use Rattle.live_settle.specs.Rans.{IsRan}
 use Rattle.live_top.specs.Printed.{HasLabel, PartIsOfMember, NamesMembers, PublishersAreMembers}
@@ -74,7 +74,7 @@ module _ (t : Meaning) (j : ℕ) (there : j < length t.lists) where
           wider None below = tt
           wider (Some part) below = omega (arith, wide, below)
 
-    labelled : (e : LiveEvent) → BringsPart t e → PartIsOfMember t e (reply_of t j m e)
+    labelled : (e : LiveEvent) → IsOfPublishedPart t e → PartIsOfMember t e (reply_of t j m e)
     labelled event.Publish brings = tt
     labelled (event.Hear octets) brings = tt
     labelled (event.Claim f) brings = claim_labelled f (is_some (claim_at w j f)) (to_claim w j) next_below
@@ -92,7 +92,7 @@ module _ (t : Meaning) (j : ℕ) (there : j < length t.lists) where
   IsLabelled e = PartIsOfMember t e.event e.reply
 
   abbrev Brings : LiveEntry → Type 0
-  Brings e = BringsPart t e.event
+  Brings e = IsOfPublishedPart t e.event
 
   each_labelled : (es : List LiveEntry) (from to : Member) → Replays t j es from to → All Brings es
       → length to.known ≤ n → All (IsBelow n) from.claims → All IsLabelled es
@@ -123,7 +123,7 @@ names_members t r is =
     let there : r.member.number < length t.lists = omega (arith, is.consistent.there, whole) in
     let wide : length r.member.known ≤ length t.lists = omega (arith, is.consistent.sound.width, whole) in
     record {
-      journal = each_labelled t r.member.number there r.journal.items (in_group (opening t r.member.number))
+      journal = each_labelled t r.member.number there r.journal.items (in_group (initial_live_member t r.member.number))
           (in_group r.member) is.replays is.brought wide (All-replicate (IsBelow (length t.lists)) 16 None tt);
       catalogue = subst (All (λ (e : Entry). HasLabel t e.publisher)) (sym is.catalogue)
           (λ k d less. has_label t _ (omega (

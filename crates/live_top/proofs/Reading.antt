@@ -11,8 +11,9 @@ use Rattle.repo_io.specs.Outside.{HasRisen}
 use Rattle.repo_io.specs.declared.read_fault.ReadFault.{ReadFault}
 use Rattle.repo_io.specs.declared.read_fault.ReadFault.TheVariants as fault
 use Rattle.repo_io.specs.Lines.{lines}
-use Rattle.live_script.specs.Judging.{IsJudged, Reached, Verdict, is_of_live, judged, refused, takes, unjudged}
-use Rattle.live_script.proofs.Judged.{each_line_is_judged}
+use Rattle.live_script.specs.Evaluation.{IsEvaluated, Reached, Verdict, is_of_live, evaluated, refused, takes}
+use Rattle.live_script.specs.Evaluation.{not_evaluated}
+use Rattle.live_script.proofs.Evaluated.{each_line_is_evaluated}
 use Rattle.script_report.specs.declared.refusal.Refusal.{Refusal}
 use Rattle.live_top.specs.declared.input.InputError.{InputError}
 use Rattle.live_top.specs.declared.input.InputError.TheVariants as halt
@@ -52,16 +53,16 @@ refused_among : (r : Reached) (ls : List (List ℕ)) (n : ℕ) (why : Refusal) �
 unfolding outcome_from
 refused_among r [] n why is = absurd cc
 refused_among r (line ∷ ls) n why is =
-    go (judged r line) (each_line_is_judged r line) is (λ next h. refused_among next ls n why h) where
-      go : (v : Verdict) → IsJudged v
+    go (evaluated r line) (each_line_is_evaluated r line) is (λ next h. refused_among next ls n why h) where
+      go : (v : Verdict) → IsEvaluated v
           → outcome_after (λ next. outcome_from next ls) (r.lines + 1) v ≡ Refused n why
           → ((next : Reached) → outcome_from next ls ≡ Refused n why → is_of_live why ≡ true)
           → is_of_live why ≡ true
-      go (refused w) is_judged h others =
+      go (refused w) is_evaluated h others =
           let same : w ≡ why = cc in
-          subst (λ (reason : Refusal). is_of_live reason ≡ true) same is_judged
-      go (takes next) is_judged h others = others next h
-      go unjudged is_judged h others = absurd is_judged
+          subst (λ (reason : Refusal). is_of_live reason ≡ true) same is_evaluated
+      go (takes next) is_evaluated h others = others next h
+      go not_evaluated is_evaluated h others = absurd is_evaluated
 
 pub halted_at : (left rest : Option (List ℕ)) (old new : ℕ) (input : List ℕ) (r : Result Reached InputError)
     → Keeps left (prepend_known input rest) → length input ≤ 16777217 → (length input < 16777217 → IsAtEnd rest)

@@ -7,7 +7,7 @@ use Rattle.script_lang.specs.Checking.{Party, party_label}
 use Rattle.live_member.specs.Meanings.{IsWithinLimits, meaning_of}
 use Rattle.live_settle.specs.Rans.{IsRan, numbers_below}
 use Rattle.repo_io.specs.Outside.{GainsText}
-use Rattle.live_script.specs.Judging.{Reached}
+use Rattle.live_script.specs.Evaluation.{Reached}
 use Rattle.live_script.specs.declared.members.Members.{Members}
 use Rattle.live_script.specs.Scripts.{Gives, GivesNobody}
 use Rattle.live_top.specs.Outcomes.{first_draws, labels_at, meaning_at}

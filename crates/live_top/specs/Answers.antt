@@ -9,10 +9,10 @@ use Rattle.live_settle.specs.Rans.{AreRans}
 use Rattle.repo_io.specs.declared.status.Status.{Status}
 use Rattle.repo_io.specs.declared.status.Status.TheVariants as status
 use Rattle.repo_io.specs.Outside.{GainsText, GainsPrefix}
-use Rattle.repo_io.specs.Statuses.{IsReported}
+use Rattle.repo_io.specs.Statuses.{IsEndOfRun}
 use Rattle.script_report.specs.declared.refusal.Refusal.{Refusal}
 use Rattle.script_report.specs.Refusals.{refusal_number, refusal_text}
-use Rattle.live_script.specs.Judging.{Reached, is_of_live}
+use Rattle.live_script.specs.Evaluation.{Reached, is_of_live}
 use Rattle.live_top.specs.Outcomes.{Outcome, Refused, Taken, Unjudged, outcome_of, meaning_at, labels_at}
 use Rattle.live_top.specs.Journals.{live_text}
 
@@ -78,7 +78,7 @@ pub record UsageIsOfWords (words : List (List ℕ)) (answer : Status) (SameSourc
 -- The status is of the lines of the input.
 pub record IsOfLines (left : Option (List ℕ)) (answer : Status) : Type 0 where
   -- On `Done` and `Refused` it is what they come to.
-  pub reported : IsReported answer → IfSome left (λ input. answer ≡ status_of (outcome_of input))
+  pub reported : IsEndOfRun answer → IfSome left (λ input. answer ≡ status_of (outcome_of input))
   -- No line brings octets, so none is foreign.
   pub never_foreign : (line : ℕ) → answer ≢ status.Foreign line
 

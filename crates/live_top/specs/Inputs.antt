@@ -1,4 +1,4 @@
--- What reading an input's lines comes to.
+-- The result of reading an input's lines.
 use Rattle.std.specs.Prelude.{◌≡◌, ⊤, ℕ, true, List, Option, IfSome}
 use Rattle.std.specs.Io.KnownBytes.{IsAtEnd, Keeps, prepend_known}
 use Rattle.repo_io.specs.Outside.{HasRisen}
@@ -6,7 +6,7 @@ use Rattle.repo_io.specs.declared.read_fault.ReadFault.{ReadFault}
 use Rattle.repo_io.specs.declared.read_fault.ReadFault.TheVariants as fault
 use Rattle.live_top.specs.declared.input.InputError.{InputError}
 use Rattle.live_top.specs.declared.input.InputError.TheVariants as halt
-use Rattle.live_script.specs.Judging.{Reached, is_of_live}
+use Rattle.live_script.specs.Evaluation.{Reached, is_of_live}
 use Rattle.live_script.specs.declared.error.LineError.{LineError}
 use Rattle.live_script.specs.declared.error.LineError.TheVariants as error
 use Rattle.live_top.specs.Outcomes.{Outcome, Refused, Taken, outcome_of}

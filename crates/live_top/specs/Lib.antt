@@ -1,5 +1,5 @@
 pub use Rattle.script_report.specs.Refusals
-pub use Rattle.live_script.specs.Judging
+pub use Rattle.live_script.specs.Evaluation
 pub use Rattle.live_settle.specs.Rans
 pub use Rattle.repo_io.specs.Outside
 pub use Rattle.repo_io.specs.Statuses

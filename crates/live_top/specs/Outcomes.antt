@@ -1,11 +1,11 @@
--- What an input of a live group comes to.
+-- How an input of a live group ends.
 use Rattle.std.specs.Prelude.{ℕ, ◌+◌, List, [], ◌∷◌, map, length}
 use Rattle.live_settle.specs.Rans.{numbers_below}
 use Rattle.live_member.specs.Meanings.{Meaning, meaning_of}
 use Rattle.script_lang.specs.Checking.{party_label}
 use Rattle.repo_io.specs.Lines.{lines}
 use Rattle.script_report.specs.declared.refusal.Refusal.{Refusal}
-use Rattle.live_script.specs.Judging.{Reached, Verdict, nothing_reached, judged, refused, takes, unjudged}
+use Rattle.live_script.specs.Evaluation.{Reached, Verdict, nothing_reached, evaluated, refused, takes, not_evaluated}
 
 -- The first line that is refused, and why; or what all lines came to. That no row judges a line doesn't happen.
 pub data Outcome : Type 0 where
@@ -17,12 +17,12 @@ pub data Outcome : Type 0 where
 abbrev pub outcome_after : (Reached → Outcome) → ℕ → Verdict → Outcome
 outcome_after others line (refused why) = Refused line why
 outcome_after others line (takes next) = others next
-outcome_after others line unjudged = Unjudged
+outcome_after others line not_evaluated = Unjudged
 
 -- What is decided of lines, after those before them.
 unfoldable pub outcome_from : Reached → List (List ℕ) → Outcome
 outcome_from r [] = Taken r
-outcome_from r (line ∷ others) = outcome_after (λ next. outcome_from next others) (r.lines + 1) (judged r line)
+outcome_from r (line ∷ others) = outcome_after (λ next. outcome_from next others) (r.lines + 1) (evaluated r line)
 
 -- The outcome of an input.
 abbrev pub outcome_of : List ℕ → Outcome

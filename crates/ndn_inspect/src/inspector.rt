@@ -8,9 +8,9 @@ use std::alloc::{AllocError, Global};
 
 /// The text that the octets are inspected as, and whether they are elements throughout.
 pub fn inspect(alloc: Global, octets: &[u8]) -> Result<(Vec<u8>, bool), AllocError>
-    ensures text { IfOk result (λ reported. reported.0.items
+    ensures text { IfOk result (λ answer. answer.0.items
         ≡ printed_with_fault (inspected octets.now).text (inspected octets.now).fault) }
-    ensures sound { IfOk result (λ reported. reported.1 ≡ not (is_some (inspected octets.now).fault)) }
+    ensures sound { IfOk result (λ answer. answer.1 ≡ not (is_some (inspected octets.now).fault)) }
 {
     let mut text = String::new(alloc);
     match put_elements(&mut text, octets)? {

@@ -154,15 +154,15 @@ failed f = Err f
 
 pub number-fails : (text : List ℕ) (f : NameFault) → (failed {A = ℕ} f ≡ failed NoMemory → ⊥)
     → FailsIn (IsDecimal most_number) 0 text f → option_map length (number_of_text text) ≡ None
-number-fails text (BadUri place) reported h =
+number-fails text (BadUri place) not_memory h =
     rw (none_from (decimal_of_text most_number text)
     (λ n e. h.2.ends (n, is_decimal_text most_number n text (omega arith) e)))
     refl
-number-fails text NoMemory reported h = absurd (reported refl)
-number-fails text NameTooLong reported h = absurd h
-number-fails text (Tlv fault) reported h = absurd h
-number-fails text (BadComponent at) reported h = absurd h
-number-fails text (BadDigestLength at) reported h = absurd h
+number-fails text NoMemory not_memory h = absurd (not_memory refl)
+number-fails text NameTooLong not_memory h = absurd h
+number-fails text (Tlv fault) not_memory h = absurd h
+number-fails text (BadComponent at) not_memory h = absurd h
+number-fails text (BadDigestLength at) not_memory h = absurd h
 
 pub width : (n : ℕ) → length (number_field n) ≤ 8
 width n =
@@ -213,13 +213,13 @@ digest-short digest text h = omega (arith, h.0, length-digits digest text h.1)
 pub digest-fails : (text : List ℕ) (f : NameFault) → (failed {A = List ℕ} f ≡ failed NoMemory → ⊥)
     → FailsIn IsDigestText 0 text f
     → option_map length (digest_of_text text) ≡ None
-digest-fails text (BadUri place) reported h =
+digest-fails text (BadUri place) not_memory h =
     rw (none_from (digest_of_text text) (λ v e. h.2.ends (v, is_digest_text text v e))) refl
-digest-fails text NoMemory reported h = absurd (reported refl)
-digest-fails text NameTooLong reported h = absurd h
-digest-fails text (Tlv fault) reported h = absurd h
-digest-fails text (BadComponent at) reported h = absurd h
-digest-fails text (BadDigestLength at) reported h = absurd h
+digest-fails text NoMemory not_memory h = absurd (not_memory refl)
+digest-fails text NameTooLong not_memory h = absurd h
+digest-fails text (Tlv fault) not_memory h = absurd h
+digest-fails text (BadComponent at) not_memory h = absurd h
+digest-fails text (BadDigestLength at) not_memory h = absurd h
 
 -- ---- components
 

@@ -82,7 +82,7 @@ impl Name {
     }
 
     /// What holds of every name. Costs nothing, and is called for its clauses.
-    pub fn is_sound(&self)
+    pub fn cite_soundness(&self)
         ensures name { IsName self.now }
         ensures short { length (encoding self.now) ≤ NAME_LIMIT }
     {

@@ -36,7 +36,7 @@ pub(crate) fn pair_at(text: &[u8], at: usize) -> Result<(u8, &[u8]), NameFault>
 pub(crate) fn read_digest(text: &[u8], at: usize) -> Result<[u8; 32], NameFault>
     requires { at + length text.now < 2 ^ 63 }
     ensures read { ReadsText (λ d. d) IsDigestText at text.now result }
-    ensures reported { result ≢ Err NameFault.NoMemory }
+    ensures not_memory { result ≢ Err NameFault.NoMemory }
 {
     let mut digest = [0; 32];
     let mut rest = text;
@@ -57,7 +57,7 @@ pub(crate) fn read_decimal(text: &[u8], at: usize, most: u64) -> Result<u64, Nam
     requires place { at + length text.now < 2 ^ 63 }
     requires digit { 9 ≤ most }
     ensures read { ReadsText (λ n. n) (IsDecimal most) at text.now result }
-    ensures reported { result ≢ Err NameFault.NoMemory }
+    ensures not_memory { result ≢ Err NameFault.NoMemory }
 {
     let mut number = None;
     for (i, octet) in text.iter().enumerate() {

@@ -173,12 +173,12 @@ fn lines_are_taken_or_refused(rt: HostRuntime) {
     for row in SCRIPTS.split('\n') {
         let (script, answer) = row.split_once(" => ").expect(&rt, "an answer");
         let mut words = Words::new(rt.alloc());
-        comes_to(&rt, &mut words, script, answer);
+        ends_as(&rt, &mut words, script, answer);
     }
 }
 
 // Each line of a script is taken but the last, of which this comes.
-fn comes_to(rt: &(impl Abort + AllocGlobal), words: &mut Words, script: &str, answer: &str) {
+fn ends_as(rt: &(impl Abort + AllocGlobal), words: &mut Words, script: &str, answer: &str) {
     let (before, last) = script.rsplit_once(';').unwrap_or(("", script));
     for line in before.split(';') {
         if !line.is_empty() {
@@ -252,17 +252,17 @@ const TOTALS: [(&str, u32, &str, &str, &str); 5] = [
 fn totals_are_passed_by_one(rt: HostRuntime) {
     for (line, count, reaches, after, answer) in &TOTALS {
         let mut words = Words::new(rt.alloc());
-        comes_to(
+        ends_as(
             &rt,
             &mut words,
             "group /g;member a /a 61;client c /c 61",
             "taken",
         );
         for _ in 0..*count {
-            comes_to(&rt, &mut words, line, "taken");
+            ends_as(&rt, &mut words, line, "taken");
         }
-        comes_to(&rt, &mut words, reaches, "taken");
-        comes_to(&rt, &mut words, after, answer);
+        ends_as(&rt, &mut words, reaches, "taken");
+        ends_as(&rt, &mut words, after, answer);
     }
 }
 
@@ -275,18 +275,18 @@ fn members_clients_and_mirrors_are_numbered(rt: HostRuntime) {
 
 // 16 members, 16 clients and 4 mirrors, and no more.
 fn declares_all(rt: &(impl Abort + AllocGlobal), words: &mut Words) {
-    comes_to(rt, words, "group /g", "taken");
+    ends_as(rt, words, "group /g", "taken");
     for i in 0..16u32 {
         let lines = format!(in rt.alloc(); "member m{i} /m/{i} 61;client c{i} /c/{i} 61");
-        comes_to(rt, words, &lines.expect(rt, "memory"), "taken");
+        ends_as(rt, words, &lines.expect(rt, "memory"), "taken");
     }
-    comes_to(rt, words, "member m16 /m/16 61", "Limit");
-    comes_to(rt, words, "client c16 /c/16 61", "Limit");
-    comes_to(rt, words, "client m3 /c/16 61", "Duplicate");
+    ends_as(rt, words, "member m16 /m/16 61", "Limit");
+    ends_as(rt, words, "client c16 /c/16 61", "Limit");
+    ends_as(rt, words, "client m3 /c/16 61", "Duplicate");
     let mirrors = "mirror l0 * /;mirror l1 m1 /x;mirror l2 * /x;mirror l3 m15 /";
-    comes_to(rt, words, mirrors, "taken");
-    comes_to(rt, words, "mirror l4 * /", "Limit");
-    comes_to(rt, words, "mirror l3 * /", "Duplicate");
+    ends_as(rt, words, mirrors, "taken");
+    ends_as(rt, words, "mirror l4 * /", "Limit");
+    ends_as(rt, words, "mirror l3 * /", "Duplicate");
 }
 
 fn are_numbered(rt: &impl Abort, words: &Words) {

@@ -12,7 +12,7 @@ use Rattle.sorted_lists.specs.SortedList.{keys, contains, value_of, with_value}
 use Rattle.sorted_lists.proofs.Sets.{eq_turned, value_of-with_value}
 use Rattle.repo_plan.specs.declared.part.Part.{Part}
 use Rattle.repo_plan.specs.declared.shape.Shape.{Shape}
-use Rattle.repo_plan.specs.Parts.{Pair, part_cmp, part_of, parts_after}
+use Rattle.repo_plan.specs.Parts.{Pair, part_cmp, part_of, last_part}
 use Rattle.repo_plan.specs.Plan.{PlanState, shape_of}
 use Rattle.repo_plan.proofs.Orders.{exact_parts}
 use Rattle.repo_object.specs.Publication.{RecordSays, shape_stated}
@@ -25,11 +25,11 @@ use Rattle.repo_holdings.specs.Records.{Packet}
 use Rattle.repo_holdings.specs.Listed.{object_stated, listing_in, listed_shape, stored_at, stated_at, are_stored}
 use Rattle.repo_holdings.specs.Listed.{contents_joined, entry_listed, entry_of_listing, whole_at}
 use Rattle.repo_holdings.specs.declared.contents.ContentsDigest.{ContentsDigest}
-use Rattle.repo_holdings.specs.Contents.{IsOver, IsToldBy, IsDigestIn}
+use Rattle.repo_holdings.specs.Contents.{IsOver, IsDigestOfEntry, IsDigestIn}
 use Rattle.repo_holdings.specs.declared.holdings.whole.Whole.{Whole}
 use Rattle.repo_holdings.specs.WholeContents.{joined, AreContentsIn, IsWholeIn}
 use Rattle.repo_holdings.specs.Gaining.{AreTied}
-use Rattle.repo_holdings.specs.Taking.{with_fetched, what_came, with_what_came, PartsDiffer}
+use Rattle.repo_holdings.specs.Taking.{with_fetched, fetched_for, with_fetched_for, PartsDiffer}
 use Rattle.repo_holdings.proofs.ContentLemmas.{flat_append, append_nothing}
 use Rattle.repo_holdings.proofs.GainingLemmas.{contains-value, put_here, shape_stored}
 use Rattle.repo_holdings.proofs.FreshLemmas.{StayStored, fetched_stays}
@@ -60,12 +60,12 @@ other_at (job ∷ jobs) u (suc i) d h low =
 pub came_at : (jobs : List Job) (parts : List (Option CheckedPart)) (packets : List Packet) (i : ℕ) (d : Job)
     (c : CheckedPart) → PartsDiffer (map job_part jobs) → i < length jobs
     → value_of part_cmp packets (get_or jobs i d).want.part ≡ None → slice_get parts i ≡ Some (Some c)
-    → value_of part_cmp (with_what_came jobs parts packets) (get_or jobs i d).want.part ≡ Some c.octets
+    → value_of part_cmp (with_fetched_for jobs parts packets) (get_or jobs i d).want.part ≡ Some c.octets
 came_at [] parts packets i d c differ low none there = absurd (omega (arith, low))
 came_at (job ∷ jobs) [] packets i d c differ low none there = absurd cc
 came_at (job ∷ jobs) (part ∷ parts) packets zero d c differ low none there =
     let is : part ≡ Some c = cc in
-    fetched_stays (what_came jobs parts) (with_fetched job.want.part (option_map (λ k. k.octets) part) packets)
+    fetched_stays (fetched_for jobs parts) (with_fetched job.want.part (option_map (λ k. k.octets) part) packets)
     job.want.part c.octets
     (ap (λ (o : Option CheckedPart).
     value_of part_cmp (with_fetched job.want.part (option_map (λ k. k.octets) o) packets) job.want.part) is
@@ -105,9 +105,9 @@ reported_consistently packets w d publisher seq octets digest whole =
     let here : Pair = (d.publisher, d.seq) in
     let there : Pair = (w.publisher, w.seq) in
     let same : here ≡ there = cc in
-    subst (λ (q : Pair). IfSome (whole_at packets q) (IsToldBy d)) (sym same)
+    subst (λ (q : Pair). IfSome (whole_at packets q) (IsDigestOfEntry d)) (sym same)
     (go (whole_at packets there) whole.contents) where
-      go : (o : Option Entry) → IfSome o (IsOver (joined w.contents.items)) → IfSome o (IsToldBy d)
+      go : (o : Option Entry) → IfSome o (IsOver (joined w.contents.items)) → IfSome o (IsDigestOfEntry d)
       go None h = tt
       go (Some e) h = record { octets = octets ∙ sym h.octets; digest = digest ∙ sym h.digest }
 
@@ -137,7 +137,7 @@ contents_are plan packets after pair shape contents tied stays summary same =
                 (IsOver (joined contents))
             says None q t = tt
             says (Some (WithdrawsNumber seq)) q t = tt
-            says (Some (Lists l)) q t = at (are_stored after pair (parts_after (listed_shape l))) where
+            says (Some (Lists l)) q t = at (are_stored after pair (last_part (listed_shape l))) where
               here : contents_joined after pair (listed_shape l) ≡ joined contents
               here =
                   let is : shape ≡ listed_shape l = cc in

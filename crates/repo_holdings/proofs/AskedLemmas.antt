@@ -9,10 +9,10 @@ use Rattle.std.proofs.lemmas.List.{get_or_past}
 use Rattle.repo_plan.specs.declared.part.Part.{Part}
 use Rattle.repo_plan.specs.declared.shape.Shape.{Shape}
 use Rattle.sorted_lists.specs.SortedList.{contains}
-use Rattle.repo_plan.specs.Parts.{part_cmp, pair_of, part_of, parent, parent_number, parts_after, shape_of_segments}
+use Rattle.repo_plan.specs.Parts.{part_cmp, pair_of, part_of, parent, parent_number, last_part, shape_of_segments}
 use Rattle.repo_plan.specs.Parts.{IsShape}
 use Rattle.repo_plan.proofs.Parents.{lists_in_turn}
-use Rattle.repo_plan.specs.Plan.{PlanState, can_be_asked, is_asked, knows, shape_of}
+use Rattle.repo_plan.specs.Plan.{PlanState, is_listed_part, may_be_asked_for, knows, shape_of}
 use Rattle.repo_object.specs.Publication.{Listed, RecordSays, shape_stated}
 use Rattle.repo_object.specs.Publication.RecordSays.{Lists, WithdrawsNumber}
 use Rattle.repo_object.specs.Records.{record_of}
@@ -29,9 +29,9 @@ use Rattle.repo_holdings.proofs.GainingLemmas.{shape_stored, shape_listed, held_
 -- ---- what records tell
 
 -- what a record says of parts is a shape that a record may tell
-pub reported_sized : (octets : List ℕ) (says : RecordSays) → stated_in octets ≡ Some says → IsShape (shape_stated says)
-reported_sized octets (WithdrawsNumber seq) h = record { index = refl; segments = omega (arith) }
-reported_sized octets (Lists l) h = go (content_in octets) h where
+pub stated_sized : (octets : List ℕ) (says : RecordSays) → stated_in octets ≡ Some says → IsShape (shape_stated says)
+stated_sized octets (WithdrawsNumber seq) h = record { index = refl; segments = omega (arith) }
+stated_sized octets (Lists l) h = go (content_in octets) h where
   go : (o : Option (List ℕ)) → option_and_then record_of o ≡ Some (Lists l) → IsShape (listed_shape l)
   go None p = absurd cc
   go (Some content) p =
@@ -40,7 +40,7 @@ reported_sized octets (Lists l) h = go (content_in octets) h where
 pub listing_sized : (o : Option (List ℕ)) (l : Listed) → option_and_then listing_in o ≡ Some l
     → IsShape (listed_shape l)
 listing_sized None l h = absurd cc
-listing_sized (Some octets) l h = reported_sized octets (Lists l) (listing_says (Some octets) l h)
+listing_sized (Some octets) l h = stated_sized octets (Lists l) (listing_says (Some octets) l h)
 
 -- the summary of a record that has it
 pub shape_sized : (octets : List ℕ) (summary : RecordSummary) → option_map summary_of (stated_in octets) ≡ Some summary
@@ -51,14 +51,14 @@ shape_sized octets summary h = go (stated_in octets) refl h where
   go None p t = absurd cc
   go (Some (Lists l)) p t =
       let is : summary_of (Lists l) ≡ summary = cc in
-      subst (λ (x : RecordSummary). IsShape (summary_shape x)) is (reported_sized octets (Lists l) p)
+      subst (λ (x : RecordSummary). IsShape (summary_shape x)) is (stated_sized octets (Lists l) p)
   go (Some (WithdrawsNumber seq)) p t =
       let is : summary_of (WithdrawsNumber seq) ≡ summary = cc in
-      subst (λ (x : RecordSummary). IsShape (summary_shape x)) is (reported_sized octets (WithdrawsNumber seq) p)
+      subst (λ (x : RecordSummary). IsShape (summary_shape x)) is (stated_sized octets (WithdrawsNumber seq) p)
 
 -- which parts the publication of a part has, as its packet tells
-pub reported_shape_sized : (t : Part) (octets : List ℕ) → IfSome (shape_in_summary t octets) IsShape
-reported_shape_sized t octets = go (t.part == 0) where
+pub stated_shape_sized : (t : Part) (octets : List ℕ) → IfSome (shape_in_summary t octets) IsShape
+stated_shape_sized t octets = go (t.part == 0) where
   sized : (o : Option RecordSummary) → option_map summary_of (stated_in octets) ≡ o
       → IfSome (option_map summary_shape o) IsShape
   sized None h = tt
@@ -72,24 +72,24 @@ reported_shape_sized t octets = go (t.part == 0) where
 
 -- what lists a part that is asked for is stored
 pub asked_segment : (plan : PlanState) (packets : List Packet) (t : Part) → AreTied plan packets
-    → is_asked plan t ≡ true → (t.part == 0) ≡ false → HasParent packets t
+    → may_be_asked_for plan t ≡ true → (t.part == 0) ≡ false → HasParent packets t
 asked_segment plan packets t tied asked following = go (stored_at packets (pair_of t) 0) refl where
   summary : shape_of plan (pair_of t) ≡ option_map shape_stated (stated_at packets (pair_of t))
   summary = shape_stored plan packets (pair_of t) tied
 
-  can : can_be_asked plan.held (shape_of plan (pair_of t)) t ≡ true
-  can = (and_parts (knows plan (pair_of t)) (can_be_asked plan.held (shape_of plan (pair_of t)) t) asked).1
+  can : is_listed_part plan.held (shape_of plan (pair_of t)) t ≡ true
+  can = (and_parts (knows plan (pair_of t)) (is_listed_part plan.held (shape_of plan (pair_of t)) t) asked).1
 
   above : 0 < t.part
   above = omega (arith, eqb-false t.part 0 following)
 
   -- the part is counted, and what lists it is held
   counts : (shape : Shape) → shape_of plan (pair_of t) ≡ Some shape
-      → (nat_le t.part (parts_after shape) && contains part_cmp plan.held (parent shape t)) ≡ true
+      → (nat_le t.part (last_part shape) && contains part_cmp plan.held (parent shape t)) ≡ true
   counts shape p =
-      let some : can_be_asked plan.held (Some shape) t ≡ true =
-      subst (λ (s : Option Shape). can_be_asked plan.held s t ≡ true) p can in
-      elim (or_cases (t.part == 0) (nat_le t.part (parts_after shape) && contains part_cmp plan.held (parent shape t))
+      let some : is_listed_part plan.held (Some shape) t ≡ true =
+      subst (λ (s : Option Shape). is_listed_part plan.held s t ≡ true) p can in
+      elim (or_cases (t.part == 0) (nat_le t.part (last_part shape) && contains part_cmp plan.held (parent shape t))
       some) [
         | inl zero ↦ absurd (true≢false (sym zero ∙ following))
         | inr both ↦ both
@@ -99,8 +99,8 @@ asked_segment plan packets t tied asked following = go (stored_at packets (pair_
   of_listing l p =
       let shape : Shape = listed_shape l in
       let both = counts shape (shape_listed plan packets (pair_of t) tied l p) in
-      let two = and_parts (nat_le t.part (parts_after shape)) (contains part_cmp plan.held (parent shape t)) both in
-      let counted : t.part ≤ parts_after shape = leb-true t.part (parts_after shape) two.0 in
+      let two = and_parts (nat_le t.part (last_part shape)) (contains part_cmp plan.held (parent shape t)) both in
+      let counted : t.part ≤ last_part shape = leb-true t.part (last_part shape) two.0 in
       record {
         following = above;
         listing = l;
@@ -108,7 +108,7 @@ asked_segment plan packets t tied asked following = go (stored_at packets (pair_
         counted = counted;
         index = λ k. index_there l p counted two.1 k;
       } where
-        index_there : (l : Listed) → listing_at packets (pair_of t) ≡ Some l → t.part ≤ parts_after (listed_shape l)
+        index_there : (l : Listed) → listing_at packets (pair_of t) ≡ Some l → t.part ≤ last_part (listed_shape l)
             → contains part_cmp plan.held (parent (listed_shape l) t) ≡ true
             → 0 < parent_number (listed_shape l) t.part
             → IsSome (index_at packets (pair_of t) l.segments (parent_number (listed_shape l) t.part))
@@ -137,15 +137,15 @@ asked_segment plan packets t tied asked following = go (stored_at packets (pair_
 
   go : (o : Option (List ℕ)) → stored_at packets (pair_of t) 0 ≡ o → HasParent packets t
   go None p =
-      let none : can_be_asked plan.held None t ≡ true =
-      subst (λ (s : Option Shape). can_be_asked plan.held s t ≡ true)
+      let none : is_listed_part plan.held None t ≡ true =
+      subst (λ (s : Option Shape). is_listed_part plan.held s t ≡ true)
       (summary ∙ ap (λ (o : Option (List ℕ)). option_map shape_stated (option_and_then stated_in o)) p) can in
       absurd (true≢false (sym none ∙ following))
   go (Some octets) p = says (stated_in octets) refl where
     says : (o : Option RecordSays) → stated_in octets ≡ o → HasParent packets t
     says None q =
-        let none : can_be_asked plan.held None t ≡ true =
-        subst (λ (s : Option Shape). can_be_asked plan.held s t ≡ true)
+        let none : is_listed_part plan.held None t ≡ true =
+        subst (λ (s : Option Shape). is_listed_part plan.held s t ≡ true)
         (summary ∙ ap (λ (o : Option (List ℕ)). option_map shape_stated (option_and_then stated_in o)) p
         ∙ ap (option_map shape_stated) q) can in
         absurd (true≢false (sym none ∙ following))
@@ -162,9 +162,9 @@ asked_segment plan packets t tied asked following = go (stored_at packets (pair_
         absurd (omega (arith, counted, above))
 
 -- the publisher of a part that is asked for is a member
-pub asked_member : (plan : PlanState) (t : Part) → is_asked plan t ≡ true → t.publisher < length plan.known
+pub asked_member : (plan : PlanState) (t : Part) → may_be_asked_for plan t ≡ true → t.publisher < length plan.known
 asked_member plan t asked =
-    let known = (and_parts (knows plan (pair_of t)) (can_be_asked plan.held (shape_of plan (pair_of t)) t) asked).0 in
+    let known = (and_parts (knows plan (pair_of t)) (is_listed_part plan.held (shape_of plan (pair_of t)) t) asked).0 in
     let both = and_parts (nat_le 1 t.seq) (nat_le t.seq (slice_index plan.known t.publisher)) known in
     let low = leb-true 1 t.seq both.0 in
     let high = leb-true t.seq (slice_index plan.known t.publisher) both.1 in

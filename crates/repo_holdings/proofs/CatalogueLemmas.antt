@@ -11,7 +11,7 @@ use Rattle.std.specs.declared.cmp.Ordering.TheVariants.{Less, Equal, Greater}
 use Rattle.sha2.specs.Sha256.{sha256}
 use Rattle.sorted_lists.specs.SortedList.{by_order, keys, Rises, value_of, with_value}
 use Rattle.sorted_lists.specs.Range.{numbers_from}
-use Rattle.repo_plan.specs.Parts.{Pair, pair_cmp, part_cmp, parts_after}
+use Rattle.repo_plan.specs.Parts.{Pair, pair_cmp, part_cmp, last_part}
 use Rattle.repo_plan.proofs.Orders.{exact_pairs}
 use Rattle.sorted_lists.proofs.Sets.{eq_same, eq_itself, rises_with_value, value_of-with_value, rises_keys_filter}
 use Rattle.sorted_lists.proofs.Sets.{value_of-filter, eq_turned}
@@ -102,7 +102,7 @@ none_is_some e h = cc
 entry_keyed : (packets : List Packet) (pair : Pair) (l : Listed) (e : Entry) → entry_listed packets pair l ≡ Some e
     → publication_of e ≡ pair
 entry_keyed packets pair l e h =
-    go (are_stored packets pair (parts_after (listed_shape l))) h where
+    go (are_stored packets pair (last_part (listed_shape l))) h where
       go : (b : Bool) → cond b (Some (entry_of_listing packets pair l)) None ≡ Some e → publication_of e ≡ pair
       go true p = let same : entry_of_listing packets pair l ≡ e = cc in ap publication_of (sym same)
       go false p = absurd (none_is_some e p)
@@ -222,7 +222,7 @@ without_keyed pair (x ∷ es) k =
 
 abbrev stored_entry : (ℕ → Option (List ℕ)) → Pair → Listed → Option Entry
 stored_entry at pair l =
-    cond (list_all (λ x. is_some (at x)) (numbers_from 1 (parts_after (listed_shape l))))
+    cond (list_all (λ x. is_some (at x)) (numbers_from 1 (last_part (listed_shape l))))
     (Some
     (let joined =
     flat_map (λ x. packet_content (unwrap_or (at x) []))

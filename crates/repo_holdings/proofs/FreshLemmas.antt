@@ -15,8 +15,8 @@ use Rattle.sorted_lists.specs.Range.{numbers_from}
 use Rattle.sorted_lists.proofs.Sets.{eq_same, eq_itself, value_of-with_value, contains_append}
 use Rattle.repo_plan.specs.declared.part.Part.{Part}
 use Rattle.repo_plan.specs.declared.shape.Shape.{Shape}
-use Rattle.repo_plan.specs.Parts.{Pair, pair_cmp, part_cmp, pair_of, part_of, parts_after}
-use Rattle.repo_plan.specs.Plan.{PlanState, holds, is_asked}
+use Rattle.repo_plan.specs.Parts.{Pair, pair_cmp, part_cmp, pair_of, part_of, last_part}
+use Rattle.repo_plan.specs.Plan.{PlanState, holds, may_be_asked_for}
 use Rattle.repo_plan.proofs.Orders.{exact_pairs, exact_parts}
 use Rattle.repo_object.specs.Publication.{Listed}
 use Rattle.repo_store.specs.StoreList.{with_packet}
@@ -36,7 +36,7 @@ use Rattle.repo_holdings.specs.Listed.{stored_at, listing_in, listed_shape, stor
 use Rattle.repo_holdings.specs.Listed.{entry_of_listing, entry_listed, whole_at, is_withdrawn, entry_at}
 use Rattle.repo_holdings.specs.Listed.{member_catalogue}
 use Rattle.repo_holdings.specs.declared.contents.ContentsDigest.{ContentsDigest}
-use Rattle.repo_holdings.specs.Contents.{IsToldBy, IsDigestIn}
+use Rattle.repo_holdings.specs.Contents.{IsDigestOfEntry, IsDigestIn}
 use Rattle.repo_holdings.specs.Noted.{NotesState, AreNotes}
 use Rattle.repo_holdings.specs.Gaining.{AreTied, IsArrival}
 use Rattle.repo_holdings.specs.Changing.{changed, change_by, lists_entry, withdraws_too}
@@ -300,7 +300,8 @@ module _ (packets after : List Packet) (pair : Pair) (notes : NotesState) (summa
 pub gained_waits : (plan : PlanState) (packets after : List Packet) (notes : NotesState) (t : Part) (octets : List ℕ)
     (summary : Option RecordSummary) (change : Change) (fresh entries : List Entry) (gone : List Pair)
     → AreTied plan packets
-    → AreNotes notes packets → IsArrival packets t octets summary → is_asked plan t ≡ true → holds plan t ≡ false
+    → AreNotes notes packets → IsArrival packets t octets summary → may_be_asked_for plan t ≡ true
+    → holds plan t ≡ false
     → after ≡ with_packet t octets packets
     → change ≡ change_by notes.withdrawn (pair_of t) summary (entry_at after (pair_of t))
     → member_catalogue after ≡ changed change (member_catalogue packets)
@@ -401,15 +402,15 @@ module _ (packets after : List Packet) (pair : Pair) (e : Entry) (stays : StaySt
   }
 
   -- the segments are among the parts after the record
-  segments_stored : (shape : Shape) → are_stored packets pair (parts_after shape) ≡ true
+  segments_stored : (shape : Shape) → are_stored packets pair (last_part shape) ≡ true
       → list_all (λ x. is_some (stored_at packets pair x)) (numbers_from (shape.index + 1) shape.segments) ≡ true
   segments_stored shape h = numbers_after (λ x. is_some (stored_at packets pair x)) shape.index shape.segments h
 
-  of_listing : (l : Listed) (b : Bool) → are_stored packets pair (parts_after (listed_shape l)) ≡ b
+  of_listing : (l : Listed) (b : Bool) → are_stored packets pair (last_part (listed_shape l)) ≡ b
       → cond b (Some (entry_of_listing packets pair l)) None ≡ Some e → entry_listed after pair l ≡ Some e
   of_listing l false p h = absurd (none_is_some e h)
   of_listing l true p h =
-      let all = all_stay (numbers_from 1 (parts_after (listed_shape l))) p in
+      let all = all_stay (numbers_from 1 (last_part (listed_shape l))) p in
       let both =
       all_stay (numbers_from ((listed_shape l).index + 1) (listed_shape l).segments)
       (segments_stored (listed_shape l) p) in
@@ -420,7 +421,7 @@ module _ (packets after : List Packet) (pair : Pair) (e : Entry) (stays : StaySt
   at_listing : (o : Option Listed) → option_and_then (entry_listed packets pair) o ≡ Some e
       → option_and_then (entry_listed after pair) o ≡ Some e
   at_listing None h = absurd (none_is_some e h)
-  at_listing (Some l) h = of_listing l (are_stored packets pair (parts_after (listed_shape l))) refl h
+  at_listing (Some l) h = of_listing l (are_stored packets pair (last_part (listed_shape l))) refl h
 
   at_record : (o : Option (List ℕ)) → stored_at packets pair 0 ≡ o
       → option_and_then (entry_listed packets pair) (option_and_then listing_in o) ≡ Some e
@@ -439,10 +440,10 @@ module _ (packets after : List Packet) (pair : Pair) (e : Entry) (stays : StaySt
 digest_sooner : (packets after : List Packet) (d : ContentsDigest) → StayStored packets after → IsDigestIn after d
     → IsDigestIn packets d
 digest_sooner packets after d stays summary = go (whole_at packets (d.publisher, d.seq)) refl where
-  go : (o : Option Entry) → whole_at packets (d.publisher, d.seq) ≡ o → IfSome o (IsToldBy d)
+  go : (o : Option Entry) → whole_at packets (d.publisher, d.seq) ≡ o → IfSome o (IsDigestOfEntry d)
   go None p = tt
   go (Some e) p =
-      subst (λ (o : Option Entry). IfSome o (IsToldBy d))
+      subst (λ (o : Option Entry). IfSome o (IsDigestOfEntry d))
       (whole_stays packets after (d.publisher, d.seq) e stays p) summary
 
 -- what is true of all that will be stored is true before

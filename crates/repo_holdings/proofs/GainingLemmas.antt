@@ -9,9 +9,10 @@ use Rattle.repo_plan.specs.declared.part.Part.{Part}
 use Rattle.sorted_lists.specs.SortedList.{keys, Rises, contains, value_of, with_value, insert_key}
 use Rattle.sorted_lists.specs.Range.{numbers_from}
 use Rattle.repo_plan.specs.declared.shape.Shape.{Shape}
-use Rattle.repo_plan.specs.Parts.{Pair, pair_cmp, part_cmp, pair_of, part_of, parts_of, parts_reported, parts_after}
-use Rattle.repo_plan.specs.Plan.{PlanState, holds, holds_too, uses_room, with_shape, shape_of, is_complete, is_asked}
-use Rattle.repo_plan.specs.Plan.{can_be_asked, knows}
+use Rattle.repo_plan.specs.Parts.{Pair, pair_cmp, part_cmp, pair_of, part_of, parts_of, last_known_part, last_part}
+use Rattle.repo_plan.specs.Plan.{PlanState, holds, after_hold, uses_room, with_shape, shape_of, is_complete}
+use Rattle.repo_plan.specs.Plan.{may_be_asked_for}
+use Rattle.repo_plan.specs.Plan.{is_listed_part, knows}
 use Rattle.repo_plan.proofs.Orders.{exact_pairs, exact_parts}
 use Rattle.sorted_lists.proofs.Sets.{eq_same, eq_itself, keys-with_value, rises_with_value, value_of-with_value}
 use Rattle.repo_object.specs.Publication.{Listed, RecordSays, shape_stated}
@@ -104,19 +105,19 @@ module _ (packets : List Packet) (t : Part) (octets : List ℕ)
 
 -- ---- what is told
 
-reported_stated : (o : Option RecordSays) → option_map summary_shape (option_map summary_of o)
+record_stated : (o : Option RecordSays) → option_map summary_shape (option_map summary_of o)
     ≡ option_map shape_stated o
-reported_stated None = refl
-reported_stated (Some (Lists l)) = refl
-reported_stated (Some (WithdrawsNumber seq)) = refl
+record_stated None = refl
+record_stated (Some (Lists l)) = refl
+record_stated (Some (WithdrawsNumber seq)) = refl
 
-pub reported_shape_is : (t : Part) (octets : List ℕ)
+pub stated_shape_is : (t : Part) (octets : List ℕ)
     → shape_in_summary t octets ≡ cond (t.part == 0) (option_map shape_stated (stated_in octets)) None
-reported_shape_is t octets = go (t.part == 0) where
+stated_shape_is t octets = go (t.part == 0) where
   go : (b : Bool)
       → option_map summary_shape (cond b (option_map summary_of (stated_in octets)) None)
       ≡ cond b (option_map shape_stated (stated_in octets)) None
-  go true = reported_stated (stated_in octets)
+  go true = record_stated (stated_in octets)
   go false = refl
 
 some_mapped : {A B : Type 0} (f : A → B) (o : Option A) → is_some (option_map f o) ≡ is_some o
@@ -138,7 +139,7 @@ module _ (plan : PlanState) (packets : List Packet) (t : Part) (octets : List �
   rises : Rises part_cmp (keys (with_packet t octets packets))
   rises = put_rises packets t octets absent tied.in_order
 
-  held_too : (holds_too t shape plan).held ≡ keys (with_packet t octets packets)
+  held_too : (after_hold t shape plan).held ≡ keys (with_packet t octets packets)
   held_too =
       ap (λ (b : Bool). (cond b plan (record plan {
         held = insert_key part_cmp t plan.held;
@@ -153,7 +154,7 @@ module _ (plan : PlanState) (packets : List Packet) (t : Part) (octets : List �
   shapes_same is_record summary =
       same_map exact_pairs (with_shape (pair_of t) shape plan.shapes) (shapes_in (with_packet t octets packets))
       (order shape) (shapes_rise (with_packet t octets packets) rises)
-      (λ q. at q shape (t.part == 0) refl (summary ∙ reported_shape_is t octets) is_record) where
+      (λ q. at q shape (t.part == 0) refl (summary ∙ stated_shape_is t octets) is_record) where
         before : Rises pair_cmp (keys plan.shapes)
         before =
             subst (λ (es : List (Pair × Shape)). Rises pair_cmp (keys es)) (sym tied.shapes)
@@ -212,23 +213,24 @@ module _ (plan : PlanState) (packets : List Packet) (t : Part) (octets : List �
               go false h = old_value q ∙ ap (option_map shape_stated) (sym (other q h)) ∙ sym (new_value q)
 
   -- where a part is asked for that is no record, the record is stored
-  pub asked_stated : is_asked plan t ≡ true → (t.part == 0) ≡ false → is_some (stated_at packets (pair_of t)) ≡ true
+  pub asked_stated : may_be_asked_for plan t ≡ true → (t.part == 0) ≡ false
+      → is_some (stated_at packets (pair_of t)) ≡ true
   asked_stated asked following =
       go (stated_at packets (pair_of t)) (shape_of plan (pair_of t)) refl
       (ap (λ (es : List (Pair × Shape)). value_of pair_cmp es (pair_of t)) tied.shapes
       ∙ shapes_value packets (pair_of t) tied.in_order) where
-        can : can_be_asked plan.held (shape_of plan (pair_of t)) t ≡ true
-        can = (and_parts (knows plan (pair_of t)) (can_be_asked plan.held (shape_of plan (pair_of t)) t) asked).1
+        can : is_listed_part plan.held (shape_of plan (pair_of t)) t ≡ true
+        can = (and_parts (knows plan (pair_of t)) (is_listed_part plan.held (shape_of plan (pair_of t)) t) asked).1
 
         go : (o : Option RecordSays) (s : Option Shape) → shape_of plan (pair_of t) ≡ s
             → s ≡ option_map shape_stated o → is_some o ≡ true
         go (Some says) s p h = refl
         go None s p h =
             absurd (true≢false (sym can
-            ∙ ap (λ (s : Option Shape). can_be_asked plan.held s t) (p ∙ h)
+            ∙ ap (λ (s : Option Shape). is_listed_part plan.held s t) (p ∙ h)
             ∙ following))
 
-  recorded_too : is_asked plan t ≡ true → (is_some shape ≡ (t.part == 0)) → shape ≡ shape_in_summary t octets
+  recorded_too : may_be_asked_for plan t ≡ true → (is_some shape ≡ (t.part == 0)) → shape ≡ shape_in_summary t octets
       → (pair : Pair) (x : ℕ) → is_some (stored_at (with_packet t octets packets) pair x) ≡ true
       → is_some (stated_at (with_packet t octets packets) pair) ≡ true
   recorded_too asked is_record summary pair x there = go (eq_by_cmp pair_cmp pair (pair_of t)) refl where
@@ -237,7 +239,7 @@ module _ (plan : PlanState) (packets : List Packet) (t : Part) (octets : List �
         ap is_some (stated_put packets t octets absent
         ∙ ap (λ (c : Bool). option_and_then stated_in (cond c (Some octets) (stored_at packets (pair_of t) 0))) p)
         ∙ sym (some_mapped shape_stated (stated_in octets))
-        ∙ ap is_some (sym (summary ∙ reported_shape_is t octets
+        ∙ ap is_some (sym (summary ∙ stated_shape_is t octets
         ∙ ap (λ (c : Bool). cond c (option_map shape_stated (stated_in octets)) None) p))
         ∙ is_record
         ∙ p
@@ -316,8 +318,8 @@ module _ (plan : PlanState) (packets : List Packet) (t : Part) (octets : List �
         other (sym (put_elsewhere packets t octets absent u h) ∙ there) (eq_by_cmp pair_cmp (pair_of u) (pair_of t))
         refl (t.part == 0) refl
 
-  pub tied_too : is_asked plan t ≡ true → (is_some shape ≡ (t.part == 0)) → shape ≡ shape_in_summary t octets
-      → ListsAsMany octets (lists_at packets t) → AreTied (holds_too t shape plan) (with_packet t octets packets)
+  pub tied_too : may_be_asked_for plan t ≡ true → (is_some shape ≡ (t.part == 0)) → shape ≡ shape_in_summary t octets
+      → ListsAsMany octets (lists_at packets t) → AreTied (after_hold t shape plan) (with_packet t octets packets)
   tied_too asked is_record summary lists = record {
     in_order = rises;
     held = held_too;
@@ -368,12 +370,12 @@ module _ (plan : PlanState) (packets : List Packet) (pair : Pair) (tied : AreTie
     go (Some octets) p = refl
 
   pub complete_stored : (l : Listed) → listing_at packets pair ≡ Some l
-      → is_complete plan pair ≡ are_stored packets pair (parts_after (listed_shape l))
+      → is_complete plan pair ≡ are_stored packets pair (last_part (listed_shape l))
   complete_stored l h =
-      ap (λ (o : Option Shape). list_all (holds plan) (parts_of pair (parts_reported o))) (shape_listed l h)
-      ∙ rw add-one (all_held (0 ∷ numbers_from (0 + 1) (parts_after (listed_shape l))))
+      ap (λ (o : Option Shape). list_all (holds plan) (parts_of pair (last_known_part o))) (shape_listed l h)
+      ∙ rw add-one (all_held (0 ∷ numbers_from (0 + 1) (last_part (listed_shape l))))
       ∙ ap (λ (b : Bool). b
-      && list_all (λ x. is_some (stored_at packets pair x)) (numbers_from 1 (parts_after (listed_shape l))))
+      && list_all (λ x. is_some (stored_at packets pair x)) (numbers_from 1 (last_part (listed_shape l))))
       (record_there l h)
 
   -- an object is stored wholly exactly where it is complete
@@ -381,9 +383,9 @@ module _ (plan : PlanState) (packets : List Packet) (pair : Pair) (tied : AreTie
       → is_some (whole_at packets pair) ≡ is_complete plan pair
   complete_whole l h =
       ap (λ (o : Option Listed). is_some (option_and_then (entry_listed packets pair) o)) h
-      ∙ go (are_stored packets pair (parts_after (listed_shape l))) refl
+      ∙ go (are_stored packets pair (last_part (listed_shape l))) refl
       ∙ sym (complete_stored l h) where
-        go : (b : Bool) → are_stored packets pair (parts_after (listed_shape l)) ≡ b
+        go : (b : Bool) → are_stored packets pair (last_part (listed_shape l)) ≡ b
             → is_some (entry_listed packets pair l) ≡ b
         go true p = rw p refl
         go false p = rw p refl
@@ -391,7 +393,7 @@ module _ (plan : PlanState) (packets : List Packet) (pair : Pair) (tied : AreTie
 -- ---- what is left as it was
 
 pub others_kept : (t : Part) (shape : Option Shape) (plan : PlanState)
-    → KeepsOthers plan (uses_room (holds_too t shape plan))
+    → KeepsOthers plan (uses_room (after_hold t shape plan))
 others_kept t shape plan = go (holds plan t) where
   go : (b : Bool)
       → KeepsOthers plan

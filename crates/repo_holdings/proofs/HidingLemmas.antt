@@ -12,7 +12,7 @@ use Rattle.repo_plan.specs.declared.part.Part.{Part}
 use Rattle.repo_plan.specs.declared.shape.Shape.{Shape}
 use Rattle.sorted_lists.specs.SortedList.{keys, Rises, contains, value_of}
 use Rattle.repo_plan.specs.Parts.{Pair, pair_cmp, part_cmp, pair_of, part_of}
-use Rattle.repo_plan.specs.Plan.{PlanState, is_in, hides_too, uses_room}
+use Rattle.repo_plan.specs.Plan.{PlanState, is_in, after_hide, uses_room}
 use Rattle.repo_plan.proofs.Orders.{exact_pairs, exact_parts}
 use Rattle.sorted_lists.proofs.Sets.{eq_same, eq_itself, eq_turned, keys-filter, rises_keys_filter, value_of-filter}
 use Rattle.repo_object.specs.Publication.{Listed, shape_stated}
@@ -119,7 +119,7 @@ module _ (pair : Pair) (packets : List Packet) where
 -- ---- the plan
 
 pub tied_hides : (pair : Pair) (plan : PlanState) (packets : List Packet) → AreTied plan packets
-    → AreTied (uses_room (hides_too pair plan)) (packets_outside pair packets)
+    → AreTied (uses_room (after_hide pair plan)) (packets_outside pair packets)
 tied_hides pair plan packets tied = record {
   in_order = rises_outside pair packets tied.in_order;
   held = ap (filter (λ (t : Part). not (is_in pair t))) tied.held ∙ sym (keys_outside pair packets);
@@ -270,7 +270,7 @@ tied_hides_all : (pairs : List Pair) (plan : PlanState) (packets : List Packet) 
     → AreTied (plan_hides pairs plan) (outside_all pairs packets)
 tied_hides_all [] plan packets tied = tied
 tied_hides_all (pair ∷ pairs) plan packets tied =
-    tied_hides_all pairs (uses_room (hides_too pair plan)) (packets_outside pair packets)
+    tied_hides_all pairs (uses_room (after_hide pair plan)) (packets_outside pair packets)
     (tied_hides pair plan packets tied)
 
 noted_hides_all : (pairs : List Pair) (packets : List Packet) (old new : NotesState) → Rises part_cmp (keys packets)
@@ -323,7 +323,7 @@ is_none_of (pair ∷ pairs) q h =
 pub all_hidden : (pairs : List Pair) (plan : PlanState) → IsHiding pairs plan (plan_hides pairs plan)
 all_hidden [] plan = record { known = refl; claims = refl; hidden = refl; attempts = refl }
 all_hidden (pair ∷ pairs) plan =
-    let h = all_hidden pairs (uses_room (hides_too pair plan)) in
+    let h = all_hidden pairs (uses_room (after_hide pair plan)) in
     record { known = h.known; claims = h.claims; hidden = h.hidden; attempts = h.attempts }
 
 -- how much room it takes
@@ -331,4 +331,4 @@ pub room_hidden : (pairs : List Pair) (plan : PlanState) → length pairs ≤ pl
     → (plan_hides pairs plan).spare + length pairs ≡ plan.spare
 room_hidden [] plan room = omega arith
 room_hidden (pair ∷ pairs) plan room =
-    let h = room_hidden pairs (uses_room (hides_too pair plan)) (omega (arith, room)) in omega (arith, h, room)
+    let h = room_hidden pairs (uses_room (after_hide pair plan)) (omega (arith, room)) in omega (arith, h, room)

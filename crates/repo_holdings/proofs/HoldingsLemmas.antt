@@ -7,8 +7,8 @@ use Rattle.ndn_name.specs.Names.{Component}
 use Rattle.sorted_lists.specs.SortedList.{contains, value_of}
 use Rattle.repo_plan.specs.declared.part.Part.{Part}
 use Rattle.repo_plan.specs.declared.shape.Shape.{Shape}
-use Rattle.repo_plan.specs.Parts.{Pair, pair_cmp, pair_of, parent, parts_after}
-use Rattle.repo_plan.specs.Plan.{PlanState, is_asked}
+use Rattle.repo_plan.specs.Parts.{Pair, pair_cmp, pair_of, parent, last_part}
+use Rattle.repo_plan.specs.Plan.{PlanState, may_be_asked_for}
 use Rattle.repo_plan.proofs.Changes.{same_holdings}
 use Rattle.repo_holdings.specs.declared.holdings.Holdings.TheInside.{Inside}
 use Rattle.repo_holdings.specs.declared.holdings.stored_parent.StoredParent.{StoredParent}
@@ -38,12 +38,12 @@ reading f m h is view same = ap f (plan_is m is) ∙ same ∙ ap (λ (x : Holdin
 
 -- what is asked for, as its plan has it
 pub asked_of : (m : Inside) (h : HoldingsState) (t : Part) → IsHoldings m → state m ≡ h
-    → is_asked (held_plan h) t ≡ true → is_asked m.plan t ≡ true
-asked_of m h t is view asked = reading (λ p. is_asked p t) m h is view refl ∙ asked
+    → may_be_asked_for (held_plan h) t ≡ true → may_be_asked_for m.plan t ≡ true
+asked_of m h t is view asked = reading (λ p. may_be_asked_for p t) m h is view refl ∙ asked
 
 -- what lists a part that is asked for is stored
 pub segment_of : (m : Inside) (h : HoldingsState) (t : Part) → IsHoldings m → state m ≡ h
-    → is_asked (held_plan h) t ≡ true → (t.part == 0) ≡ false → HasParent m.store.packets t
+    → may_be_asked_for (held_plan h) t ≡ true → (t.part == 0) ≡ false → HasParent m.store.packets t
 segment_of m h t is view asked following =
     asked_segment m.plan m.store.packets t is.kept.tied (asked_of m h t is view asked) following
 
@@ -52,7 +52,7 @@ not_zero n h = false_from_ne_true (n == 0) (λ e. h (eqb-true n 0 e))
 
 -- what was read last lists a part, where it stands at its place
 pub still_lists : (m : Inside) (h : HoldingsState) (t : Part) (r : StoredParent) → IsHoldings m → state m ≡ h
-    → is_asked (held_plan h) t ≡ true → (t.part ≡ 0 → ⊥) → r.part ≡ parent r.shape t → IsStoredParent h.store r
+    → may_be_asked_for (held_plan h) t ≡ true → (t.part ≡ 0 → ⊥) → r.part ≡ parent r.shape t → IsStoredParent h.store r
     → IsListedBy h.store t r
 still_lists m h t r is view asked following lists stored =
     let has = segment_of m h t is view asked (not_zero t.part following) in
@@ -64,7 +64,7 @@ still_lists m h t r is view asked following lists stored =
     record {
       following = has.following;
       counted =
-          subst (λ (s : Shape). t.part ≤ parts_after s) (ap listed_shape (sym listing) ∙ sym stored.shape) has.counted;
+          subst (λ (s : Shape). t.part ≤ last_part s) (ap listed_shape (sym listing) ∙ sym stored.shape) has.counted;
       stored = stored;
       lists = lists;
     }

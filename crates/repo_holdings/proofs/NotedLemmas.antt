@@ -59,11 +59,11 @@ noted_from before after pair old new are others with = record {
       (sym (same_whole before after q (others q p)) ∙ none)
 
 -- what is reported of an object names it
-pub named_reported : (packets : List Packet) (pair : Pair) (summary : RecordSummary) (shape : Shape)
+pub named_stated : (packets : List Packet) (pair : Pair) (summary : RecordSummary) (shape : Shape)
     (name : List Component)
     → option_map summary_of (stated_at packets pair) ≡ Some summary → summary ≡ Object shape name
     → IsSomeAnd (listing_at packets pair) (λ l. name ≡ l.name)
-named_reported packets pair summary shape name h is = go (stored_at packets pair 0) h where
+named_stated packets pair summary shape name h is = go (stored_at packets pair 0) h where
   go : (o : Option (List ℕ)) → option_map summary_of (option_and_then stated_in o) ≡ Some summary
       → IsSomeAnd (option_and_then listing_in o) (λ l. name ≡ l.name)
   go None p = absurd cc

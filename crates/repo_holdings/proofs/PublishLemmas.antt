@@ -12,9 +12,9 @@ use Rattle.repo_plan.specs.declared.part.Part.{Part}
 use Rattle.repo_plan.specs.declared.shape.Shape.{Shape}
 use Rattle.sorted_lists.specs.SortedList.{keys, Rises, contains, insert_key, value_of, with_value}
 use Rattle.repo_plan.specs.Parts.{Pair, IsShape, pair_cmp, part_cmp, pair_of, part_of, parent, parent_number}
-use Rattle.repo_plan.specs.Parts.{parts_after}
-use Rattle.repo_plan.specs.Plan.{PlanState, holds, hides, knows, is_asked, can_be_asked, is_claimed, shape_of}
-use Rattle.repo_plan.specs.Plan.{holds_too, uses_room, with_shape}
+use Rattle.repo_plan.specs.Parts.{last_part}
+use Rattle.repo_plan.specs.Plan.{PlanState, holds, hides, knows, may_be_asked_for, is_listed_part, is_claimed, shape_of}
+use Rattle.repo_plan.specs.Plan.{after_hold, uses_room, with_shape}
 use Rattle.repo_plan.proofs.Orders.{exact_pairs, exact_parts}
 use Rattle.repo_plan.proofs.Parents.{lists_in_turn}
 use Rattle.sorted_lists.proofs.Sets.{eq_same, eq_itself, contains-insert_key, value_of-with_value}
@@ -34,7 +34,7 @@ use Rattle.repo_holdings.specs.HoldingsState.{HoldingsState, held_plan}
 use Rattle.repo_holdings.specs.HoldingsFields.{state, IsHoldings}
 use Rattle.repo_holdings.proofs.HoldingsLemmas.{plan_is}
 use Rattle.repo_holdings.proofs.AskedLemmas.{shape_sized}
-use Rattle.repo_holdings.proofs.WithdrawnLemmas.{withdrawn_more, withdraws_reported}
+use Rattle.repo_holdings.proofs.WithdrawnLemmas.{withdrawn_more, withdraws_stated}
 use Rattle.repo_holdings.proofs.GainingLemmas.{contains-value, put_here, put_elsewhere, record_put, record_stays}
 use Rattle.repo_holdings.proofs.GainingLemmas.{list_nothing}
 
@@ -78,20 +78,20 @@ later_part pair x y less = go (eq_by_cmp part_cmp (part_of pair x) (part_of pair
 -- ---- the plan so far
 
 -- what part `x` of a publication tells: the record its shape
-abbrev pub reported_first : Shape → ℕ → Option Shape
-reported_first shape x = cond (x == 0) (Some shape) None
+abbrev pub stated_first : Shape → ℕ → Option Shape
+stated_first shape x = cond (x == 0) (Some shape) None
 
-pub not_reported : (shape : Shape) (x : ℕ) → (x ≡ 0 → ⊥) → reported_first shape x ≡ None
-not_reported shape x h =
+pub not_stated : (shape : Shape) (x : ℕ) → (x ≡ 0 → ⊥) → stated_first shape x ≡ None
+not_stated shape x h =
     ap (λ (b : Bool). cond b (Some shape) None) (false_from_ne_true (x == 0) (λ e. h (eqb-true x 0 e)))
 
-pub reported_later : (shape : Shape) (n : ℕ) → reported_first shape (suc n) ≡ None
-reported_later shape n =
+pub stated_later : (shape : Shape) (n : ℕ) → stated_first shape (suc n) ≡ None
+stated_later shape n =
     ap (λ (b : Bool). cond b (Some shape) None)
     (false_from_ne_true (suc n == 0) (λ e. absurd (omega (arith, eqb-true (suc n) 0 e))))
 
 -- what lists a part comes before it
-parent_before : (shape : Shape) (x : ℕ) → IsShape shape → 0 < x → x ≤ parts_after shape → parent_number shape x < x
+parent_before : (shape : Shape) (x : ℕ) → IsShape shape → 0 < x → x ≤ last_part shape → parent_number shape x < x
 parent_before shape x sized some counted =
     elim (cases_lt shape.index x) [
       | inl above ↦ omega (arith, above, (lists_in_turn shape sized).listed x counted)
@@ -121,25 +121,25 @@ module _ (start plan : PlanState) (pair : Pair) (shape : Shape) (x : ℕ) (new :
       ap (λ (known : List ℕ). nat_le 1 pair.1 && nat_le pair.1 (slice_index known pair.0)) so_far.others.known
       ∙ new.known
 
-  pub can_ask : IsShape shape → x ≤ parts_after shape → is_asked plan (part_of pair x) ≡ true
+  pub can_ask : IsShape shape → x ≤ last_part shape → may_be_asked_for plan (part_of pair x) ≡ true
   can_ask sized counted =
-      and_from (knows plan pair) (can_be_asked plan.held (shape_of plan pair) (part_of pair x)) known_still
+      and_from (knows plan pair) (is_listed_part plan.held (shape_of plan pair) (part_of pair x)) known_still
       (go x refl) where
-        record_part : (s : Option Shape) → can_be_asked plan.held s (part_of pair 0) ≡ true
+        record_part : (s : Option Shape) → is_listed_part plan.held s (part_of pair 0) ≡ true
         record_part None = refl
         record_part (Some n) = refl
 
-        go : (n : ℕ) → x ≡ n → can_be_asked plan.held (shape_of plan pair) (part_of pair n) ≡ true
+        go : (n : ℕ) → x ≡ n → is_listed_part plan.held (shape_of plan pair) (part_of pair n) ≡ true
         go zero e = record_part (shape_of plan pair)
         go (suc n) e =
             let above : 0 < x = omega (arith, e) in
             let before : parent_number shape (suc n) < x =
             omega (arith, e, parent_before shape (suc n) sized (omega arith) (omega (arith, e, counted))) in
-            ap (λ (s : Option Shape). can_be_asked plan.held s (part_of pair (suc n))) (so_far.summary above)
+            ap (λ (s : Option Shape). is_listed_part plan.held s (part_of pair (suc n))) (so_far.summary above)
             ∙ or_right (suc n == 0) _
-            (and_from (nat_le (suc n) (parts_after shape))
+            (and_from (nat_le (suc n) (last_part shape))
             (contains part_cmp plan.held (parent shape (part_of pair (suc n))))
-            (le-leb (suc n) (parts_after shape) (omega (arith, e, counted)))
+            (le-leb (suc n) (last_part shape) (omega (arith, e, counted)))
             (so_far.held (parent_number shape (suc n)) before))
 
   pub not_hidden : hides plan pair ≡ false
@@ -152,8 +152,8 @@ module _ (start plan : PlanState) (pair : Pair) (shape : Shape) (x : ℕ) (new :
       ∙ new.not_claimed x
 
   -- one part more
-  pub gained_more : (summary : Option Shape) (after : PlanState) → summary ≡ reported_first shape x
-      → after ≡ uses_room (holds_too (part_of pair x) summary plan) → HasGained start after pair shape (x + 1)
+  pub gained_more : (summary : Option Shape) (after : PlanState) → summary ≡ stated_first shape x
+      → after ≡ uses_room (after_hold (part_of pair x) summary plan) → HasGained start after pair shape (x + 1)
   gained_more summary after is_reported is =
       subst (λ (p : PlanState). HasGained start p pair shape (x + 1)) (sym (is ∙ ap uses_room taken)) (record {
         others = record {
@@ -164,7 +164,7 @@ module _ (start plan : PlanState) (pair : Pair) (shape : Shape) (x : ℕ) (new :
         };
         fresh = λ y h. held_of (part_of pair y) (so_far.fresh y (omega (arith, h))) (later y (omega (arith, h)));
         held = λ y h. held_then y h (cases_lt y x);
-        summary = λ h. reported_then x refl is_reported;
+        summary = λ h. stated_then x refl is_reported;
       }) where
         with_it : PlanState
         with_it = record plan {
@@ -172,7 +172,7 @@ module _ (start plan : PlanState) (pair : Pair) (shape : Shape) (x : ℕ) (new :
           shapes = with_shape pair summary plan.shapes;
         }
 
-        taken : holds_too (part_of pair x) summary plan ≡ with_it
+        taken : after_hold (part_of pair x) summary plan ≡ with_it
         taken = ap (λ (b : Bool). cond b plan with_it) (so_far.fresh x (omega arith))
 
         later : (y : ℕ) → x < y → eq_by_cmp part_cmp (part_of pair y) (part_of pair x) ≡ false
@@ -199,16 +199,16 @@ module _ (start plan : PlanState) (pair : Pair) (shape : Shape) (x : ℕ) (new :
             (ap (λ (n : ℕ). eq_by_cmp part_cmp (part_of pair n) (part_of pair x)) same
             ∙ eq_itself exact_parts (part_of pair x))
 
-        reported_then : (n : ℕ) → x ≡ n → summary ≡ reported_first shape x
+        stated_then : (n : ℕ) → x ≡ n → summary ≡ stated_first shape x
             → value_of pair_cmp (with_shape pair summary plan.shapes) pair ≡ Some shape
-        reported_then zero e s =
-            let is_some_shape : summary ≡ Some shape = s ∙ ap (reported_first shape) e in
+        stated_then zero e s =
+            let is_some_shape : summary ≡ Some shape = s ∙ ap (stated_first shape) e in
             ap (λ (o : Option Shape). value_of pair_cmp (with_shape pair o plan.shapes) pair) is_some_shape
             ∙ value_of-with_value exact_pairs pair shape plan.shapes pair
             ∙ ap (λ (b : Bool). cond b (Some shape) (value_of pair_cmp plan.shapes pair))
             (eq_itself exact_pairs pair)
-        reported_then (suc n) e s =
-            let is_none : summary ≡ None = s ∙ ap (reported_first shape) e ∙ reported_later shape n in
+        stated_then (suc n) e s =
+            let is_none : summary ≡ None = s ∙ ap (stated_first shape) e ∙ stated_later shape n in
             ap (λ (o : Option Shape). value_of pair_cmp (with_shape pair o plan.shapes) pair) is_none
             ∙ so_far.summary (omega (arith, e))
 
@@ -220,7 +220,7 @@ first_listing [] = None
 first_listing (octets ∷ following) = listing_in octets
 
 -- from part `x` on: all, or those after the record, which is stored
-pub record AreToCome (summary : RecordSummary) (l : Option Listed) (pair : Pair) (x : ℕ) (rest : List (List ℕ))
+pub record AreRemaining (summary : RecordSummary) (l : Option Listed) (pair : Pair) (x : ℕ) (rest : List (List ℕ))
     (stored : List Packet) : Type 0 where
   pub all : x ≡ 0 → ArePackets summary rest
   pub first : x ≡ 0 → first_listing rest ≡ l
@@ -228,9 +228,9 @@ pub record AreToCome (summary : RecordSummary) (l : Option Listed) (pair : Pair)
   pub recorded : 0 < x → listing_at stored pair ≡ l
 
 module _ (summary : RecordSummary) (l : Option Listed) (pair : Pair) (x : ℕ) (octets : List ℕ) (rest : List (List ℕ))
-    (stored : List Packet) (come : AreToCome summary l pair x (octets ∷ rest) stored) where
+    (stored : List Packet) (come : AreRemaining summary l pair x (octets ∷ rest) stored) where
   -- what it tells is its shape, if it is the record
-  pub reports_shape : (s : Option Shape) → s ≡ reported_first (summary_shape summary) x → s
+  pub reports_shape : (s : Option Shape) → s ≡ stated_first (summary_shape summary) x → s
       ≡ shape_in_summary (part_of pair x) octets
   reports_shape s is = go (x == 0) refl is where
     go : (b : Bool) → (x == 0) ≡ b → s ≡ cond b (Some (summary_shape summary)) None
@@ -252,7 +252,7 @@ module _ (summary : RecordSummary) (l : Option Listed) (pair : Pair) (x : ℕ) (
 
   -- those after it
   pub come_later : (after : List Packet) → after ≡ with_packet (part_of pair x) octets stored
-      → contains part_cmp (keys stored) (part_of pair x) ≡ false → AreToCome summary l pair (x + 1) rest after
+      → contains part_cmp (keys stored) (part_of pair x) ≡ false → AreRemaining summary l pair (x + 1) rest after
   come_later after puts absent = record {
     all = λ e. absurd (omega (arith, e));
     first = λ e. absurd (omega (arith, e));
@@ -281,7 +281,7 @@ module _ (summary : RecordSummary) (l : Option Listed) (pair : Pair) (x : ℕ) (
 -- at first all are to come
 pub all_to_come : (summary : RecordSummary) (pair : Pair) (made : List (List ℕ)) (stored : List Packet)
     → ArePackets summary made
-    → AreToCome summary (first_listing made) pair 0 made stored
+    → AreRemaining summary (first_listing made) pair 0 made stored
 all_to_come summary pair made stored lists = record {
   all = λ e. lists;
   first = λ e. refl;
@@ -291,7 +291,7 @@ all_to_come summary pair made stored lists = record {
 
 -- how many there are
 pub count_packets : (summary : RecordSummary) (made : List (List ℕ)) → ArePackets summary made
-    → length made ≡ parts_after (summary_shape summary) + 1
+    → length made ≡ last_part (summary_shape summary) + 1
 count_packets summary [] lists = absurd lists
 count_packets summary (octets ∷ following) lists = omega (arith, lists.1.0)
 
@@ -328,8 +328,8 @@ module _ (packets after : List Packet) (pair : Pair) (made : List (List ℕ)) (s
     go [] h = absurd h
     go (octets ∷ following) h = h.0
 
-  pub publication_reported : option_map summary_of (stated_at after pair) ≡ Some summary
-  publication_reported =
+  pub publication_stated : option_map summary_of (stated_at after pair) ≡ Some summary
+  publication_stated =
       ap (λ (o : Option (List ℕ)). option_map summary_of (option_and_then stated_in o)) record_stored ∙ first_reported
 
   none_before : stored_at packets pair 0 ≡ None
@@ -356,7 +356,7 @@ module _ (packets after : List Packet) (pair : Pair) (made : List (List ℕ)) (s
       → (withdraws_too pair (Some summary) q || contains pair_cmp withdrawn q) ≡ is_withdrawn after q
   withdrawn_published withdrawn before later were q =
       ap (λ (b : Bool). b || contains pair_cmp withdrawn q)
-      (sym (withdraws_reported pair (first_octets made) summary first_reported q))
+      (sym (withdraws_stated pair (first_octets made) summary first_reported q))
       ∙ ap (λ (b : Bool). withdraws q (pair, first_octets made) || b) (were q)
       ∙ sym (withdrawn_more packets after pair before later (λ k other. others_aside k other 0) (first_octets made)
       none_before record_stored q)
@@ -364,7 +364,7 @@ module _ (packets after : List Packet) (pair : Pair) (made : List (List ℕ)) (s
 -- ---- room
 
 pub room_kept : (t : Part) (shape : Option Shape) (plan : PlanState)
-    → (uses_room (holds_too t shape plan)).spare ≡ plan.spare - 1
+    → (uses_room (after_hold t shape plan)).spare ≡ plan.spare - 1
 room_kept t shape plan = go (holds plan t) where
   go : (b : Bool)
       → (uses_room (cond b plan (record plan {

@@ -10,7 +10,7 @@ use Rattle.sorted_lists.specs.SortedList.{keys, Rises, contains, value_of}
 use Rattle.sorted_lists.proofs.Sets.{eq_same, eq_itself}
 use Rattle.repo_plan.specs.declared.part.Part.{Part}
 use Rattle.repo_plan.specs.Parts.{Pair, pair_cmp, part_cmp, pair_of, part_of}
-use Rattle.repo_plan.specs.Plan.{PlanState, holds, is_asked}
+use Rattle.repo_plan.specs.Plan.{PlanState, holds, may_be_asked_for}
 use Rattle.repo_plan.proofs.Orders.{exact_pairs}
 use Rattle.repo_object.specs.Publication.{Listed}
 use Rattle.repo_object.specs.Verdict.{stated_in}
@@ -26,7 +26,7 @@ use Rattle.repo_holdings.specs.Noted.{NotesState, AreNotes}
 use Rattle.repo_holdings.specs.Gaining.{AreTied, IsArrival, summary_of, with_listed}
 use Rattle.repo_holdings.specs.Changing.{changed, change_by, lists_entry, withdraws_too}
 use Rattle.repo_holdings.proofs.CatalogueLemmas.{relisted, unlisted, same_entry, entry_of_none}
-use Rattle.repo_holdings.proofs.WithdrawnLemmas.{withdrawn_same, withdrawn_more, withdraws_reported}
+use Rattle.repo_holdings.proofs.WithdrawnLemmas.{withdrawn_same, withdrawn_more, withdraws_stated}
 use Rattle.repo_holdings.proofs.NotedLemmas.{withdrawal_lists_none}
 use Rattle.repo_holdings.proofs.GainingLemmas.{absent, contains-value, put_rises, other_pairs, record_put}
 use Rattle.repo_holdings.proofs.AskedLemmas.{asked_segment}
@@ -107,7 +107,8 @@ module _ (old new : List Packet) (pair : Pair) (withdrawn : List Pair) (old_orde
 
 module _ (plan : PlanState) (packets after : List Packet) (notes : NotesState) (t : Part) (octets : List ℕ)
     (summary : Option RecordSummary) (tied : AreTied plan packets) (noted : AreNotes notes packets)
-    (arrival : IsArrival packets t octets summary) (asked : is_asked plan t ≡ true) (missing : holds plan t ≡ false)
+    (arrival : IsArrival packets t octets summary) (asked : may_be_asked_for plan t ≡ true)
+    (missing : holds plan t ≡ false)
     (puts : after ≡ with_packet t octets packets) where
   gone : contains part_cmp (keys packets) t ≡ false
   gone = absent plan packets t octets None tied missing
@@ -174,7 +175,7 @@ module _ (plan : PlanState) (packets after : List Packet) (notes : NotesState) (
         (record_now ∙ ap (λ (b : Bool). cond b (Some octets) (stored_at packets (pair_of t) 0)) p) q)
     go (Some x) true p h is says =
         ap (λ (b : Bool). b || contains pair_cmp notes.withdrawn q)
-        (sym (withdraws_reported (pair_of t) octets x (sym h) q))
+        (sym (withdraws_stated (pair_of t) octets x (sym h) q))
         ∙ ap (λ (b : Bool). withdraws q (pair_of t, octets) || b) (noted.withdrawn q)
         ∙ sym (withdrawn_more packets after (pair_of t) tied.in_order rises_now others_then octets
         (none_before (stored_at packets (pair_of t) 0)

@@ -21,7 +21,7 @@ use Rattle.repo_plan.specs.declared.part.Part.{Part}
 use Rattle.repo_plan.specs.declared.shape.Shape.{Shape}
 use Rattle.sorted_lists.specs.SortedList.{contains, value_of, with_value}
 use Rattle.repo_plan.specs.Parts.{Pair, pair_cmp, part_cmp, pair_of, part_of}
-use Rattle.repo_plan.specs.Plan.{PlanState, holds, is_asked, is_claimed, shape_of, attempts_of}
+use Rattle.repo_plan.specs.Plan.{PlanState, holds, may_be_asked_for, is_claimed, shape_of, attempts_of}
 use Rattle.repo_plan.proofs.Changes.{Keeps, asked_kept}
 use Rattle.repo_plan.proofs.Orders.{exact_parts}
 use Rattle.sorted_lists.proofs.Sets.{eq_same, eq_itself, value_of-with_value}
@@ -130,11 +130,11 @@ module _ (old new : PlanState) (packets after : List Packet) (x : Tried) (was : 
         ∙ h
 
   -- what is asked for
-  asked_still : (t : Part) → is_asked old t ≡ true → is_asked new t ≡ true
+  asked_still : (t : Part) → may_be_asked_for old t ≡ true → may_be_asked_for new t ≡ true
   asked_still t asked = asked_kept old new t kept asked
 
   -- another part that came
-  arrival_still : (t : Part) (octets : List ℕ) (summary : Option RecordSummary) → is_asked old t ≡ true
+  arrival_still : (t : Part) (octets : List ℕ) (summary : Option RecordSummary) → may_be_asked_for old t ≡ true
       → IsArrival packets t octets summary → IsArrival after t octets summary
   arrival_still t octets summary asked is = record {
     reads = is.reads;

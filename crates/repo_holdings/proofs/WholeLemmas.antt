@@ -9,7 +9,7 @@ use Rattle.repo_plan.specs.declared.part.Part.{Part}
 use Rattle.repo_plan.specs.declared.shape.Shape.{Shape}
 use Rattle.sorted_lists.specs.SortedList.{contains, value_of}
 use Rattle.repo_plan.specs.Parts.{Pair, part_cmp, pair_of, part_of}
-use Rattle.repo_plan.specs.Plan.{PlanState, holds, is_asked, is_complete, shape_of}
+use Rattle.repo_plan.specs.Plan.{PlanState, holds, may_be_asked_for, is_complete, shape_of}
 use Rattle.repo_plan.proofs.Whole.{not_complete}
 use Rattle.repo_object.specs.Publication.{Listed}
 use Rattle.repo_holdings.specs.Records.{Packet}
@@ -72,7 +72,7 @@ module _ (plan : PlanState) (packets : List Packet) (pair : Pair) (tied : AreTie
 
 -- a publication of which an asked part is missing is not stored wholly
 pub missing_unlisted : (plan : PlanState) (packets : List Packet) (t : Part) → AreTied plan packets
-    → is_asked plan t ≡ true → holds plan t ≡ false → whole_at packets (pair_of t) ≡ None
+    → may_be_asked_for plan t ≡ true → holds plan t ≡ false → whole_at packets (pair_of t) ≡ None
 missing_unlisted plan packets t tied asked missing = go (t.part == 0) refl where
   nothing : value_of part_cmp packets t ≡ None
   nothing =

@@ -145,10 +145,10 @@ module _ (old new : List Packet) (pair : Pair) (old_order : Rises part_cmp (keys
 -- ---- as it is told
 
 -- what is reported of a record withdraws what that does
-pub withdraws_reported : (pair : Pair) (octets : List ℕ) (summary : RecordSummary)
+pub withdraws_stated : (pair : Pair) (octets : List ℕ) (summary : RecordSummary)
     → option_map summary_of (stated_in octets) ≡ Some summary
     → (q : Pair) → withdraws q (pair, octets) ≡ withdraws_too pair (Some summary) q
-withdraws_reported pair octets summary h q = go (stated_in octets) refl h where
+withdraws_stated pair octets summary h q = go (stated_in octets) refl h where
   go : (o : Option RecordSays) → stated_in octets ≡ o → option_map summary_of o ≡ Some summary
       → is_that q (option_and_then (withdrawn_by pair) o) ≡ withdraws_too pair (Some summary) q
   go None p t = absurd cc

@@ -12,10 +12,10 @@ pub record IsOver (contents : List ℕ) (e : Entry) : Type 0 where
   pub digest : e.digest ≡ sha256 contents
 
 -- an entry has the number of octets and the digest that are given
-pub record IsToldBy (d : ContentsDigest) (e : Entry) : Type 0 where
+pub record IsDigestOfEntry (d : ContentsDigest) (e : Entry) : Type 0 where
   pub octets : d.octets ≡ e.octets
   pub digest : d.digest ≡ e.digest
 
 -- what is given is right for the publication, where it is stored whole
 abbrev pub IsDigestIn : List Packet → ContentsDigest → Type 0
-IsDigestIn packets d = IfSome (whole_at packets (d.publisher, d.seq)) (IsToldBy d)
+IsDigestIn packets d = IfSome (whole_at packets (d.publisher, d.seq)) (IsDigestOfEntry d)

@@ -2,7 +2,7 @@
 use Rattle.std.specs.Prelude.{◌≡◌, List, [], ◌∷◌}
 use Rattle.repo_plan.specs.Parts.{Pair, pair_cmp}
 use Rattle.sorted_lists.specs.SortedList.{insert_key}
-use Rattle.repo_plan.specs.Plan.{PlanState, hides_too, uses_room}
+use Rattle.repo_plan.specs.Plan.{PlanState, after_hide, uses_room}
 use Rattle.repo_store.specs.StoreList.{packets_outside}
 use Rattle.repo_holdings.specs.Records.{Packet}
 use Rattle.repo_holdings.specs.HoldingsState.{HoldingsState}
@@ -20,7 +20,7 @@ with_hidden (pair ∷ pairs) hidden = with_hidden pairs (insert_key pair_cmp pai
 -- the plan after these publications were hidden one after another
 abbrev pub plan_hides : List Pair → PlanState → PlanState
 plan_hides [] plan = plan
-plan_hides (pair ∷ pairs) plan = plan_hides pairs (uses_room (hides_too pair plan))
+plan_hides (pair ∷ pairs) plan = plan_hides pairs (uses_room (after_hide pair plan))
 
 -- a plan in which nothing changed but that these publications are hidden, and none of their parts is held
 pub record IsHiding (pairs : List Pair) (old new : PlanState) : Type 0 where

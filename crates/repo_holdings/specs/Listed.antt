@@ -8,7 +8,7 @@ use Rattle.std.specs.Ordering.{eq_by_cmp}
 use Rattle.sha2.specs.Sha256.{sha256}
 use Rattle.sorted_lists.specs.Range.{numbers_from}
 use Rattle.sorted_lists.specs.SortedList.{value_of}
-use Rattle.repo_plan.specs.Parts.{Pair, pair_cmp, part_cmp, part_of, parts_after, shape_of_segments}
+use Rattle.repo_plan.specs.Parts.{Pair, pair_cmp, part_cmp, part_of, last_part, shape_of_segments}
 use Rattle.repo_plan.specs.declared.shape.Shape.{Shape}
 use Rattle.repo_object.specs.Publication.{Listed, RecordSays, shape_stated}
 use Rattle.repo_object.specs.Publication.RecordSays.{Lists, WithdrawsNumber}
@@ -107,7 +107,7 @@ entry_of_listing packets pair l = record {
 -- the same, where every part after the record is stored
 abbrev pub entry_listed : List Packet → Pair → Listed → Option Entry
 entry_listed packets pair l =
-    if are_stored packets pair (parts_after (listed_shape l)) then Some (entry_of_listing packets pair l) else None
+    if are_stored packets pair (last_part (listed_shape l)) then Some (entry_of_listing packets pair l) else None
 
 -- the entry of an object whose record is stored, and every part after it
 abbrev pub whole_at : List Packet → Pair → Option Entry

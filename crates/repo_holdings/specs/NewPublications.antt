@@ -1,7 +1,7 @@
 -- Publications that are held from their beginning on.
 use Rattle.std.specs.Prelude.{◌≡◌, ℕ, ◌+◌, ◌-◌, true, false, List, [], ◌∷◌, length, Option, Some, option_map}
 use Rattle.std.specs.Option.{option_and_then}
-use Rattle.repo_plan.specs.Parts.{Pair, part_of, parts_after}
+use Rattle.repo_plan.specs.Parts.{Pair, part_of, last_part}
 use Rattle.repo_plan.specs.Plan.{PlanState, knows, holds, hides, is_claimed}
 use Rattle.repo_object.specs.Publication.{Listed}
 use Rattle.repo_object.specs.Verdict.{stated_in}
@@ -36,7 +36,7 @@ abbrev pub ArePackets : RecordSummary → List (List ℕ) → Type 0
 ArePackets summary [] = ⊥
 ArePackets summary (octets ∷ following) =
     (option_map summary_of (stated_in octets) ≡ Some summary)
-    × ((length following ≡ parts_after (summary_shape summary)) × ListInTurn (listing_in octets) 1 following)
+    × ((length following ≡ last_part (summary_shape summary)) × ListInTurn (listing_in octets) 1 following)
 
 -- a known publication of which the plan has nothing
 pub record IsNew (plan : PlanState) (pair : Pair) : Type 0 where

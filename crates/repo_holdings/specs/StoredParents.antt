@@ -3,7 +3,7 @@ use Rattle.std.specs.Prelude.{◌≡◌, ℕ, ◌-◌, ◌*◌, ◌<◌, ◌≤�
 use Rattle.std.specs.Prelude.{IfSome, IsSome, slice_get, unwrap_or, if◌then◌else◌}
 use Rattle.std.specs.Option.{option_and_then}
 use Rattle.repo_plan.specs.declared.part.Part.{Part}
-use Rattle.repo_plan.specs.Parts.{Pair, most_listed, pair_of, parent, parent_number, parts_after}
+use Rattle.repo_plan.specs.Parts.{Pair, most_listed, pair_of, parent, parent_number, last_part}
 use Rattle.repo_plan.specs.declared.shape.Shape.{Shape}
 use Rattle.repo_object.specs.Publication.{Listed}
 use Rattle.repo_object.specs.Verdict.{index_in}
@@ -55,7 +55,7 @@ pub record HasParent (packets : List Packet) (t : Part) : Type 0 where
   pub following : 0 < t.part
   pub listing : Listed
   pub listed : listing_at packets (pair_of t) ≡ Some listing
-  pub counted : t.part ≤ parts_after (listed_shape listing)
+  pub counted : t.part ≤ last_part (listed_shape listing)
   pub index : 0 < parent_number (listed_shape listing) t.part
       → IsSome (index_at packets (pair_of t) listing.segments (parent_number (listed_shape listing) t.part))
 
@@ -72,6 +72,6 @@ pub record IsStoredParent (packets : List Packet) (r : StoredParent) : Type 0 wh
 -- it lists this part
 pub record IsListedBy (packets : List Packet) (t : Part) (r : StoredParent) : Type 0 where
   pub following : 0 < t.part
-  pub counted : t.part ≤ parts_after r.shape
+  pub counted : t.part ≤ last_part r.shape
   pub stored : IsStoredParent packets r
   pub lists : r.part ≡ parent r.shape t

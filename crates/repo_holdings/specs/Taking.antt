@@ -6,7 +6,7 @@ use Rattle.std.specs.Ordering.{eq_by_cmp}
 use Rattle.repo_plan.specs.declared.part.Part.{Part}
 use Rattle.repo_plan.specs.Parts.{Pair, pair_cmp, part_cmp, pair_of}
 use Rattle.sorted_lists.specs.SortedList.{contains, value_of, with_value}
-use Rattle.repo_plan.specs.Plan.{PlanState, holds, hides, is_asked, is_claimed, attempts_of}
+use Rattle.repo_plan.specs.Plan.{PlanState, holds, hides, may_be_asked_for, is_claimed, attempts_of}
 use Rattle.repo_object.specs.declared.job.Job.{Job}
 use Rattle.repo_object.specs.Verdict.{CheckedPart}
 use Rattle.repo_store.specs.StoreList.{with_packet}
@@ -51,7 +51,7 @@ arrival_octets x = length (unwrap_or (came x).packet [])
 -- what came of a tried part can be taken: the part is wanted and unclaimed, the packet is of it, and it was not tried
 -- too often
 pub record CanBeTaken (plan : PlanState) (packets : List Packet) (x : Tried) : Type 0 where
-  pub asked : is_asked plan x.part ≡ true
+  pub asked : may_be_asked_for plan x.part ≡ true
   pub not_held : holds plan x.part ≡ false
   pub not_hidden : hides plan (pair_of x.part) ≡ false
   pub not_claimed : is_claimed plan x.part ≡ false
@@ -69,14 +69,14 @@ with_all_fetched [] stored = stored
 with_all_fetched (x ∷ xs) stored = with_all_fetched xs (with_fetched x.part x.packet stored)
 
 -- the parts of jobs, with the checked packets that came for them
-abbrev pub what_came : List Job → List (Option CheckedPart) → List Fetched
-what_came (job ∷ jobs) (part ∷ parts) =
-    record { part = job.want.part; packet = option_map (λ c. c.octets) part; attempts = 0 } ∷ what_came jobs parts
-what_came _ _ = []
+abbrev pub fetched_for : List Job → List (Option CheckedPart) → List Fetched
+fetched_for (job ∷ jobs) (part ∷ parts) =
+    record { part = job.want.part; packet = option_map (λ c. c.octets) part; attempts = 0 } ∷ fetched_for jobs parts
+fetched_for _ _ = []
 
 -- stored packets with all that came for jobs
-abbrev pub with_what_came : List Job → List (Option CheckedPart) → List Packet → List Packet
-with_what_came jobs parts stored = with_all_fetched (what_came jobs parts) stored
+abbrev pub with_fetched_for : List Job → List (Option CheckedPart) → List Packet → List Packet
+with_fetched_for jobs parts stored = with_all_fetched (fetched_for jobs parts) stored
 
 -- attempts with all that were made
 abbrev pub with_all_tries : List Fetched → List (Part × ℕ) → List (Part × ℕ)
@@ -84,8 +84,8 @@ with_all_tries [] attempts = attempts
 with_all_tries (x ∷ xs) attempts = with_all_tries xs (with_tries x.part x.attempts attempts)
 
 -- all of it is taken, where there is room for it
-abbrev pub takes_too : List Fetched → HoldingsState → HoldingsState
-takes_too xs h = record h {
+abbrev pub after_outcome : List Fetched → HoldingsState → HoldingsState
+after_outcome xs h = record h {
   store = with_all_fetched xs h.store;
   attempts = with_all_tries xs h.attempts;
   spare = h.spare - length xs;

@@ -8,7 +8,7 @@ ghost use Rattle.repo_holdings.specs.Contents.{IsDigestIn};
 ghost use Rattle.repo_holdings.specs.Gaining.{AreTied, summary_of};
 ghost use Rattle.repo_holdings.specs.Changing.{changed, change_by, withdraws_too, AreNotedWith};
 
-use crate::contents::{ContentsDigest, reported_or_taken};
+use crate::contents::{ContentsDigest, given_or_made};
 use crate::notes::Notes;
 use crate::record_summary::RecordSummary;
 use repo_catalog::{Catalogue, Entry};
@@ -109,7 +109,7 @@ fn entry_if_whole(
     if notes.is_withdrawn(publication) {
         return None;
     }
-    let (octets, digest) = reported_or_taken(store, publisher, seq, shape, digests);
+    let (octets, digest) = given_or_made(store, publisher, seq, shape, digests);
     Some(Entry {
         publisher,
         seq,

@@ -25,7 +25,7 @@ pub struct ContentsDigest {
 
 // How many octets the contents of an object that is stored wholly have together, and their digest: as they are given,
 // or else as they are found now. A digest is found among those that are given where these are in order.
-pub(crate) fn reported_or_taken(
+pub(crate) fn given_or_made(
     store: &Store,
     publisher: u32,
     seq: u16,

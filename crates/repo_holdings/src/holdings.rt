@@ -117,10 +117,10 @@ impl Holdings {
     }
 
     /// What holds of the plan of all holdings. Costs nothing, and is called for its clause.
-    pub fn is_sound(&self)
+    pub fn cite_soundness(&self)
         ensures { PlanIsSound (held_plan self.now) }
     {
-        self.plan.is_sound();
+        self.plan.cite_soundness();
     }
 
     /// How many parts are held.

@@ -5,14 +5,14 @@ use Rattle.repo_io.specs.declared.status.Status.TheVariants.{Done, Usage, Refuse
 use Rattle.repo_io.specs.declared.status.Status.TheVariants.{Foreign}
 
 -- The statuses of a run over lines that came to an end: all were taken, or one stopped it.
-abbrev pub IsReported : Status → Type 0
-IsReported Done = ⊤
-IsReported Usage = ⊥
-IsReported (Refused line number) = ⊤
-IsReported ReadFault = ⊥
-IsReported WriteFault = ⊥
-IsReported NoMemory = ⊥
-IsReported (Foreign line) = ⊤
+abbrev pub IsEndOfRun : Status → Type 0
+IsEndOfRun Done = ⊤
+IsEndOfRun Usage = ⊥
+IsEndOfRun (Refused line number) = ⊤
+IsEndOfRun ReadFault = ⊥
+IsEndOfRun WriteFault = ⊥
+IsEndOfRun NoMemory = ⊥
+IsEndOfRun (Foreign line) = ⊤
 
 -- The exit status of a program whose run ended so.
 abbrev pub exit_code : Status → ℕ

@@ -12,7 +12,7 @@ use Rattle.repo_process.specs.declared.block_state.BlockState.TheVariants.{Kept,
 use Rattle.repo_process.specs.Processes.{Process, BlockState, has_block, with_block, without_block, is_whole, object_of}
 use Rattle.repo_process.specs.Processes.{closed, block_state}
 use Rattle.repo_process.specs.Processes.BlockState.{Unknown, Already, Waiting, Whole}
-use Rattle.repo_process.specs.Arrivals.{reported_of_block, whole_object, reopened}
+use Rattle.repo_process.specs.Arrivals.{answer_of_block, whole_object, reopened}
 use Rattle.repo_process.specs.Fields.{blocks_from}
 use Rattle.repo_process.specs.Insertions.{Insertions, with_process, with_changed, changes_process, with_arrival}
 use Rattle.repo_process.proofs.LawLemmas.{block_stays, block_gone, block_comes}
@@ -84,10 +84,10 @@ module _ (before after : Insertions) (number index : ℕ) (content : List ℕ) (
     (state : BlockState) (comes : block_state before.processes number index content ≡ state)
     (arrives : after ≡ with_arrival number before state) where
   -- another block is missing
-  pub kept_waiting : (missing : ℕ) → reported_of_block state ≡ Kept missing → AreWaiting after.processes
+  pub kept_waiting : (missing : ℕ) → answer_of_block state ≡ Kept missing → AreWaiting after.processes
   kept_waiting missing h = go state comes arrives h where
     go : (s : BlockState) → block_state before.processes number index content ≡ s → after ≡ with_arrival number before s
-        → reported_of_block s ≡ Kept missing → AreWaiting after.processes
+        → answer_of_block s ≡ Kept missing → AreWaiting after.processes
     go Unknown c a k = absurd cc
     go Already c a k = absurd cc
     go (Waiting p) c a k =
@@ -96,11 +96,11 @@ module _ (before after : Insertions) (number index : ℕ) (content : List ℕ) (
     go (Whole p) c a k = absurd cc
 
   -- it was published before
-  pub nothing_lent : reported_of_block state ≡ Complete → whole_object (value_of nat_cmp after.processes number) ≡ None
+  pub nothing_lent : answer_of_block state ≡ Complete → whole_object (value_of nat_cmp after.processes number) ≡ None
       → (state ≡ Already) × (after ≡ before)
   nothing_lent h none = go state comes arrives h where
     go : (s : BlockState) → block_state before.processes number index content ≡ s → after ≡ with_arrival number before s
-        → reported_of_block s ≡ Complete → (s ≡ Already) × (after ≡ before)
+        → answer_of_block s ≡ Complete → (s ≡ Already) × (after ≡ before)
     go Unknown c a k = absurd cc
     go Already c a k = (refl, a)
     go (Waiting p) c a k = absurd cc
@@ -125,7 +125,7 @@ pub record ComesLast (before after : Insertions) (number index : ℕ) (content :
 pub comes_last : (before after : Insertions) (number index : ℕ) (content : List ℕ) (object : NamedContents)
     → AreWaiting before.processes
     → after ≡ with_arrival number before (block_state before.processes number index content)
-    → reported_of_block (block_state before.processes number index content) ≡ Complete
+    → answer_of_block (block_state before.processes number index content) ≡ Complete
     → whole_object (value_of nat_cmp after.processes number) ≡ Some object
     → (p : Process) × ComesLast before after number index content p
 comes_last before after number index content object waiting arrives is lent =
@@ -169,7 +169,7 @@ comes_last before after number index content object waiting arrives is lent =
 
       go : (s : BlockState) → block_state before.processes number index content ≡ s
           → after ≡ with_arrival number before s
-          → reported_of_block s ≡ Complete → (p : Process) × ComesLast before after number index content p
+          → answer_of_block s ≡ Complete → (p : Process) × ComesLast before after number index content p
       go Unknown c a k = absurd cc
       go Already c a k =
           absurd (not_lent (value_of nat_cmp before.processes number) refl

@@ -67,11 +67,11 @@ more_published g post time draw a true = record { number = refl; more = post ∷
 more_published g post time draw a false = nothing_more a a refl refl
 
 more_heard : (time draw : ℕ) (a : MemberState) (r : Result (List ℕ) HearRefusal) → HasMore a (if_heard time draw a r)
-more_heard time draw a (Ok reported) = nothing_more a (if_heard time draw a (Ok reported)) refl refl
+more_heard time draw a (Ok received) = nothing_more a (if_heard time draw a (Ok received)) refl refl
 more_heard time draw a (Err refusal) = nothing_more a a refl refl
 
 more_joined : (a : MemberState) (r : Result (List ℕ) HearRefusal) → HasMore a (if_joined a r)
-more_joined a (Ok reported) = nothing_more a (if_joined a (Ok reported)) refl refl
+more_joined a (Ok received) = nothing_more a (if_joined a (Ok received)) refl refl
 more_joined a (Err refusal) = nothing_more a a refl refl
 
 more_taken : (xs : List Fetched) (a : MemberState) → HasMore a (member_takes xs a)
@@ -103,9 +103,9 @@ more_after g (Withdraw seq time draw) a = go (has_unwithdrawn a.log seq) where
   go true = more_published g (Withdraws seq) time draw a (nat_lt (length a.log) 65535)
   go false = nothing_more a a refl refl
 more_after g (Hear octets time draw) a = more_heard time draw a (hear_verdict g a octets)
-more_after g (HearVector reported time draw) a = more_heard time draw a (vector_verdict a reported)
+more_after g (HearVector received time draw) a = more_heard time draw a (vector_verdict a received)
 more_after g (JoinFrom octets) a = more_joined a (hear_verdict g a octets)
-more_after g (JoinVector reported) a = more_joined a (vector_verdict a reported)
+more_after g (JoinVector received) a = more_joined a (vector_verdict a received)
 more_after g (Fire time draw) a = nothing_more a (after_call g (Fire time draw) a) refl refl
 more_after g (Claim f) a = go (claim_of (member_plan a) f) where
   go : (claim : Option Part) → HasMore a (if_claimed f a claim)

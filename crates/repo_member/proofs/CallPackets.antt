@@ -7,7 +7,7 @@ use Rattle.std.proofs.lemmas.Bool.{or_parts, or_right}
 use Rattle.repo_plan.specs.declared.part.Part.{Part}
 use Rattle.sorted_lists.specs.SortedList.{keys, contains, value_of, with_value}
 use Rattle.repo_plan.specs.Parts.{Pair, pair_cmp, part_cmp, pair_of}
-use Rattle.repo_plan.specs.Plan.{hides, holds, is_asked, claim_of}
+use Rattle.repo_plan.specs.Plan.{hides, holds, may_be_asked_for, claim_of}
 use Rattle.repo_plan.proofs.Orders.{exact_pairs, exact_parts}
 use Rattle.sorted_lists.proofs.Sets.{eq_same, eq_turned, contains-insert_key}
 use Rattle.repo_object.specs.Objects.{Post}
@@ -155,11 +155,11 @@ keeps_published g post time draw old a hidden store true =
 keeps_published g post time draw old a hidden store false = keeps_as_it_is old old refl refl
 
 keeps_heard : (time draw : ℕ) (a : MemberState) (v : Result (List ℕ) HearRefusal) → Keeps a (if_heard time draw a v)
-keeps_heard time draw a (Ok reported) = keeps_as_it_is a (if_heard time draw a (Ok reported)) refl refl
+keeps_heard time draw a (Ok received) = keeps_as_it_is a (if_heard time draw a (Ok received)) refl refl
 keeps_heard time draw a (Err refusal) = keeps_as_it_is a a refl refl
 
 keeps_joined : (a : MemberState) (v : Result (List ℕ) HearRefusal) → Keeps a (if_joined a v)
-keeps_joined a (Ok reported) = keeps_as_it_is a (if_joined a (Ok reported)) refl refl
+keeps_joined a (Ok received) = keeps_as_it_is a (if_joined a (Ok received)) refl refl
 keeps_joined a (Err refusal) = keeps_as_it_is a a refl refl
 
 keeps_taken : (xs : List Fetched) (a : MemberState) → Keeps a (member_takes xs a)
@@ -189,9 +189,9 @@ keeps_after g (Withdraw seq time draw) a = go (has_unwithdrawn a.log seq) where
   go true = keeps_published g (Withdraws seq) time draw a a refl refl (nat_lt (length a.log) 65535)
   go false = keeps_as_it_is a a refl refl
 keeps_after g (Hear octets time draw) a = keeps_heard time draw a (hear_verdict g a octets)
-keeps_after g (HearVector reported time draw) a = keeps_heard time draw a (vector_verdict a reported)
+keeps_after g (HearVector received time draw) a = keeps_heard time draw a (vector_verdict a received)
 keeps_after g (JoinFrom octets) a = keeps_joined a (hear_verdict g a octets)
-keeps_after g (JoinVector reported) a = keeps_joined a (vector_verdict a reported)
+keeps_after g (JoinVector received) a = keeps_joined a (vector_verdict a received)
 keeps_after g (Fire time draw) a = keeps_as_it_is a (after_call g (Fire time draw) a) refl refl
 keeps_after g (Claim f) a = go (claim_of (member_plan a) f) where
   go : (claim : Option Part) → Keeps a (if_claimed f a claim)
@@ -243,8 +243,8 @@ hidden_for_good g calls a pair h = (keeps_after_all g calls a).hidden pair h
 
 pub hidden_is_gone : (g : GroupKeys) (a : MemberState) → IsReached g a → HiddenIsGone g a
 hidden_is_gone g a r t h = (
-  ap (λ (b : Bool). is_asked (member_plan a) t && (not (holds (member_plan a) t) && not b)) h
-      ∙ none (is_asked (member_plan a) t) (not (holds (member_plan a) t)),
+  ap (λ (b : Bool). may_be_asked_for (member_plan a) t && (not (holds (member_plan a) t) && not b)) h
+      ∙ none (may_be_asked_for (member_plan a) t) (not (holds (member_plan a) t)),
   missing_value a.store t (r.sound.hidden t h),
 ) where
   none : (b c : Bool) → (b && (c && false)) ≡ false

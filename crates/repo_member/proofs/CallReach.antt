@@ -4,7 +4,7 @@ use Rattle.std.proofs.Common.{Ok, Err, refl, sym, ap, ◌∙◌, subst, arith}
 use Rattle.std.specs.Prelude.{◌+◌, ◌<◌, ◌&&◌, not, nat_le, nat_lt, is_ok, is_some, slice_index_or, IfSome, IfOk}
 use Rattle.std.specs.List.{list_any}
 use Rattle.std.proofs.lemmas.Bool.{and_parts, leb-true, ltb-true}
-use Rattle.svs_sync.specs.KeptVector.{Keeper, steady_kept, hears_kept, fired_kept}
+use Rattle.svs_sync.specs.SyncStates.{SyncState, steady_joined, hears_joined, fired_joined}
 use Rattle.ndn_data.specs.Data.{Data}
 use Rattle.repo_plan.specs.declared.part.Part.{Part}
 use Rattle.repo_plan.specs.Plan.{claim_of, unclaimed, first}
@@ -32,10 +32,10 @@ use Rattle.repo_member.specs.Calls.{MemberCall, Publish, Withdraw, if_numbers, H
 use Rattle.repo_member.specs.Calls.{Fire, Claim, Lose, Accept, AcceptChecked, TakeOutcome, TakeDigested, Command}
 use Rattle.repo_member.specs.Calls.{CommandChecked, Block, EndClaims, Reset, Restart, OrderNames, if_heard, if_joined}
 use Rattle.repo_member.specs.Calls.{if_claimed, if_lost, if_claimed_held, if_accepted, after_call, after_calls}
-use Rattle.repo_member.specs.Calls.{CanBeReported, IsCheckedForClaim, IsAllowedCall, AreAllowedCalls, InEveryMember}
+use Rattle.repo_member.specs.Calls.{CanBeReceived, IsCheckedForClaim, IsAllowedCall, AreAllowedCalls, InEveryMember}
 use Rattle.repo_member.proofs.MemberLemmas.{still_wide}
-use Rattle.repo_member.proofs.CallVectors.{reported_is, taken_vector}
-use Rattle.svs_sync.proofs.ReportedWidth.{reported_wide}
+use Rattle.repo_member.proofs.CallVectors.{received_is, taken_vector}
+use Rattle.svs_sync.proofs.ReceivedWidth.{received_wide}
 use Rattle.repo_member.proofs.HeldParts.{IsReached, PassesNow, reached_opening, reached_with, reached_learns}
 use Rattle.repo_member.proofs.HeldParts.{reached_gains}
 use Rattle.repo_member.proofs.PublishedParts.{reached_publishes}
@@ -45,34 +45,35 @@ use Rattle.repo_member.proofs.InsertionParts.{reached_order, reached_blocks, rea
 -- ---- a call
 
 -- what octets tell can be reported
-reported_by : (g : GroupKeys) (a : MemberState) (octets reported : List ℕ) → IsReached g a → hear_verdict g a octets
-    ≡ Ok reported
-    → CanBeReported a reported
-reported_by g a octets reported r verdict =
-    let is = reported_is g a octets reported verdict in
+received_so : (g : GroupKeys) (a : MemberState) (octets received : List ℕ) → IsReached g a → hear_verdict g a octets
+    ≡ Ok received
+    → CanBeReceived a received
+received_so g a octets received r verdict =
+    let is = received_is g a octets received verdict in
     record {
-      width = reported_wide g.members.names g.name g.members.ring octets (is.signer, reported) is.verdict ∙ r.of;
+      width = received_wide g.members.names g.name g.members.ring octets (is.signer, received) is.verdict ∙ r.of;
       own = is.not_ahead;
     }
 
 -- so can a vector that is taken
-taken_by : (a : MemberState) (reported taken : List ℕ) → CanBeReported a reported → vector_verdict a reported ≡ Ok taken
-    → CanBeReported a taken
-taken_by a reported taken can verdict = subst (CanBeReported a) (taken_vector a reported taken verdict).0 can
+taken_by : (a : MemberState) (received taken : List ℕ) → CanBeReceived a received → vector_verdict a received ≡ Ok taken
+    → CanBeReceived a taken
+taken_by a received taken can verdict = subst (CanBeReceived a) (taken_vector a received taken verdict).0 can
 
 -- what is reported is learnt
-learnt : (g : GroupKeys) (a : MemberState) (reported : List ℕ) → CanBeReported a reported → IsReached g a
-    → IsReached g (member_learns reported a)
-learnt g a reported can r = reached_learns g a reported (can.width ∙ sym r.of) can.own r
+learnt : (g : GroupKeys) (a : MemberState) (received : List ℕ) → CanBeReceived a received → IsReached g a
+    → IsReached g (member_learns received a)
+learnt g a received can r = reached_learns g a received (can.width ∙ sym r.of) can.own r
 
 -- only the machine changes
-machine_too : (g : GroupKeys) (a : MemberState) (machine : Keeper) → machine.members ≡ a.machine.members → IsReached g a
+machine_too : (g : GroupKeys) (a : MemberState) (machine : SyncState) → machine.members ≡ a.machine.members
+    → IsReached g a
     → IsReached g (record a { machine = machine })
 machine_too g a machine wide r = reached_with g a a.claims a.attempts machine wide r.sound r
 
-pub fired_wide : (time draw : ℕ) (k : Keeper) → (fired_kept time draw k).members ≡ k.members
+pub fired_wide : (time draw : ℕ) (k : SyncState) → (fired_joined time draw k).members ≡ k.members
 fired_wide time draw k = go (nat_lt time k.deadline) where
-  go : (b : Bool) → (cond b k (steady_kept time draw k)).members ≡ k.members
+  go : (b : Bool) → (cond b k (steady_joined time draw k)).members ≡ k.members
   go true = refl
   go false = refl
 
@@ -135,17 +136,17 @@ withdraws_earlier log seq h =
     (omega (arith, low), omega (arith, high))
 
 reached_heard : (g : GroupKeys) (time draw : ℕ) (a : MemberState) (v : Result (List ℕ) HearRefusal)
-    → ((reported : List ℕ) → v ≡ Ok reported → CanBeReported a reported) → IsReached g a
+    → ((received : List ℕ) → v ≡ Ok received → CanBeReceived a received) → IsReached g a
     → IsReached g (if_heard time draw a v)
-reached_heard g time draw a (Ok reported) can r =
-    let machine = hears_kept time reported a.known draw a.machine a.machine.heard in
-    machine_too g (member_learns reported a) machine (still_wide time reported a.known draw a.machine machine refl)
-    (learnt g a reported (can reported refl) r)
+reached_heard g time draw a (Ok received) can r =
+    let machine = hears_joined time received a.known draw a.machine a.machine.heard in
+    machine_too g (member_learns received a) machine (still_wide time received a.known draw a.machine machine refl)
+    (learnt g a received (can received refl) r)
 reached_heard g time draw a (Err refusal) can r = r
 
 reached_joined : (g : GroupKeys) (a : MemberState) (v : Result (List ℕ) HearRefusal)
-    → ((reported : List ℕ) → v ≡ Ok reported → CanBeReported a reported) → IsReached g a → IsReached g (if_joined a v)
-reached_joined g a (Ok reported) can r = learnt g a reported (can reported refl) r
+    → ((received : List ℕ) → v ≡ Ok received → CanBeReceived a received) → IsReached g a → IsReached g (if_joined a v)
+reached_joined g a (Ok received) can r = learnt g a received (can received refl) r
 reached_joined g a (Err refusal) can r = r
 
 -- what was checked for the want of the part that is claimed
@@ -180,15 +181,15 @@ reached_call g (Withdraw seq time draw) a can r = go (has_unwithdrawn a.log seq)
       (nat_lt (length a.log) 65535) refl
   go false there = r
 reached_call g (Hear octets time draw) a can r =
-    reached_heard g time draw a (hear_verdict g a octets) (λ reported p. reported_by g a octets reported r p) r
-reached_call g (HearVector reported time draw) a can r =
-    reached_heard g time draw a (vector_verdict a reported) (λ taken p. taken_by a reported taken can p) r
+    reached_heard g time draw a (hear_verdict g a octets) (λ received p. received_so g a octets received r p) r
+reached_call g (HearVector received time draw) a can r =
+    reached_heard g time draw a (vector_verdict a received) (λ taken p. taken_by a received taken can p) r
 reached_call g (JoinFrom octets) a can r =
-    reached_joined g a (hear_verdict g a octets) (λ reported p. reported_by g a octets reported r p) r
-reached_call g (JoinVector reported) a can r =
-    reached_joined g a (vector_verdict a reported) (λ taken p. taken_by a reported taken can p) r
+    reached_joined g a (hear_verdict g a octets) (λ received p. received_so g a octets received r p) r
+reached_call g (JoinVector received) a can r =
+    reached_joined g a (vector_verdict a received) (λ taken p. taken_by a received taken can p) r
 reached_call g (Fire time draw) a can r =
-    machine_too g a (fired_kept time draw a.machine) (fired_wide time draw a.machine) r
+    machine_too g a (fired_joined time draw a.machine) (fired_wide time draw a.machine) r
 reached_call g (Claim f) a can r = go (claim_of (member_plan a) f) where
   go : (claim : Option Part) → IsReached g (if_claimed f a claim)
   go None =
@@ -214,10 +215,10 @@ reached_call g (CommandChecked octets verdict) a can r =
 reached_call g (Block process index content time draw) a can r =
     reached_blocks g process index content time draw a can r
 reached_call g EndClaims a can r = claims_too g a (member_ends_claims a).claims (sound_end (member_plan a) r.sound) r
-reached_call g (Reset time draw) a can r = machine_too g a (steady_kept time draw a.machine) refl r
+reached_call g (Reset time draw) a can r = machine_too g a (steady_joined time draw a.machine) refl r
 reached_call g (Restart time draw) a can r =
     let ended = member_ends_claims a in
-    machine_too g (member_clears ended) (steady_kept time draw a.machine) refl
+    machine_too g (member_clears ended) (steady_joined time draw a.machine) refl
     (reached_clears g ended (claims_too g a ended.claims (sound_end (member_plan a) r.sound) r))
 reached_call g OrderNames a can r = r
 

@@ -25,7 +25,7 @@ use Rattle.repo_member.specs.declared.refusals.AcceptRefusal.{AcceptRefusal}
 use Rattle.repo_member.specs.Groups.{GroupKeys}
 use Rattle.repo_holdings.specs.Taking.{Fetched}
 use Rattle.repo_member.specs.MemberState.{MemberState, member_plan, member_publishes, member_takes}
-use Rattle.repo_member.specs.Verdicts.{vector_verdict, reported_verdict, hear_verdict, accept_verdict}
+use Rattle.repo_member.specs.Verdicts.{vector_verdict, received_verdict, hear_verdict, accept_verdict}
 use Rattle.repo_member.specs.Outcomes.{outcome_of}
 use Rattle.repo_member.specs.Deleting.{member_deletes}
 use Rattle.repo_member.specs.Commanded.{order_of, member_state_starts, member_obeys, member_after_order}
@@ -34,31 +34,31 @@ use Rattle.repo_member.specs.Calls.{MemberCall, Publish, Withdraw, if_numbers, H
 use Rattle.repo_member.specs.Calls.{Fire, Claim, Lose, Accept, AcceptChecked, TakeOutcome, TakeDigested, Command}
 use Rattle.repo_member.specs.Calls.{CommandChecked, Block, EndClaims, Reset, Restart, OrderNames, if_heard, if_joined}
 use Rattle.repo_member.specs.Calls.{if_claimed, if_lost, if_claimed_held, if_accepted}
-use Rattle.repo_member.specs.Calls.{after_call, after_calls, vector_taken, vector_of_call, vectors_reported}
+use Rattle.repo_member.specs.Calls.{after_call, after_calls, vector_taken, vector_of_call, vectors_received}
 use Rattle.repo_member.specs.Calls.{NumbersNeverFall, KnownIsTheJoin}
 use Rattle.repo_member.proofs.CallLogs.{takes_same}
 
 -- ---- what octets tell
 
 -- a vector that is taken: it was reported, and reports no more publications of the member than it made
-pub record IsReported (g : GroupKeys) (a : MemberState) (octets reported : List ℕ) : Type 0 where
+pub record IsReceived (g : GroupKeys) (a : MemberState) (octets received : List ℕ) : Type 0 where
   pub signer : ℕ
-  pub verdict : sync_verdict g.name g.members.names g.members.ring octets ≡ Ok (signer, reported)
-  pub not_ahead : slice_index reported a.number ≤ length a.log
+  pub verdict : sync_verdict g.name g.members.names g.members.ring octets ≡ Ok (signer, received)
+  pub not_ahead : slice_index received a.number ≤ length a.log
 
-is_ok_reported : (x y : List ℕ) → (let r : Result (List ℕ) HearRefusal = Ok x in r) ≡ Ok y → x ≡ y
-is_ok_reported x y h = cc
+is_ok_received : (x y : List ℕ) → (let r : Result (List ℕ) HearRefusal = Ok x in r) ≡ Ok y → x ≡ y
+is_ok_received x y h = cc
 
 -- a vector that a member takes is the one that it was reported, and reports no more publications of it than it made
-pub taken_vector : (a : MemberState) (v reported : List ℕ) → vector_verdict a v ≡ Ok reported
-    → (v ≡ reported) × (slice_index reported a.number ≤ length a.log)
-taken_vector a v reported h = go (nat_lt (length a.log) (slice_index v a.number)) refl h where
+pub taken_vector : (a : MemberState) (v received : List ℕ) → vector_verdict a v ≡ Ok received
+    → (v ≡ received) × (slice_index received a.number ≤ length a.log)
+taken_vector a v received h = go (nat_lt (length a.log) (slice_index v a.number)) refl h where
   go : (b : Bool) → nat_lt (length a.log) (slice_index v a.number) ≡ b
-      → cond b (Err (OwnNumberAhead (length a.log) (slice_index v a.number))) (Ok v) ≡ Ok reported
-      → (v ≡ reported) × (slice_index reported a.number ≤ length a.log)
+      → cond b (Err (OwnNumberAhead (length a.log) (slice_index v a.number))) (Ok v) ≡ Ok received
+      → (v ≡ received) × (slice_index received a.number ≤ length a.log)
   go true n k = absurd cc
   go false n k =
-      let same : v ≡ reported = is_ok_reported v reported k in (
+      let same : v ≡ received = is_ok_received v received k in (
         same,
         omega (
           arith,
@@ -67,14 +67,14 @@ taken_vector a v reported h = go (nat_lt (length a.log) (slice_index v a.number)
         ),
       )
 
-pub reported_is : (g : GroupKeys) (a : MemberState) (octets reported : List ℕ) → hear_verdict g a octets ≡ Ok reported
-    → IsReported g a octets reported
-reported_is g a octets reported h = go (sync_verdict g.name g.members.names g.members.ring octets) refl h where
+pub received_is : (g : GroupKeys) (a : MemberState) (octets received : List ℕ) → hear_verdict g a octets ≡ Ok received
+    → IsReceived g a octets received
+received_is g a octets received h = go (sync_verdict g.name g.members.names g.members.ring octets) refl h where
   go : (r : Result (ℕ × List ℕ) SyncRefusal) → sync_verdict g.name g.members.names g.members.ring octets ≡ r
-      → reported_verdict a r ≡ Ok reported → IsReported g a octets reported
+      → received_verdict a r ≡ Ok received → IsReceived g a octets received
   go (Err refusal) p q = absurd cc
   go (Ok sync) p q =
-      let is = taken_vector a sync.1 reported q in
+      let is = taken_vector a sync.1 received q in
       record { signer = sync.0; verdict = p ∙ ap (λ (v : List ℕ). Ok (sync.0, v)) is.0; not_ahead = is.1 }
 
 -- ---- the number of an own publication
@@ -106,13 +106,13 @@ set_joined (x ∷ v) (y ∷ w) (suc i) n m h = ap (λ (u : List ℕ). max x y �
 -- ---- a call
 
 -- from one member to another by a call: what it knew is joined with what it was reported, but for its own number
-record Learns (reported : List (List ℕ)) (old new : MemberState) : Type 0 where
+record Learns (received : List (List ℕ)) (old new : MemberState) : Type 0 where
   number : new.number ≡ old.number
   knows : KnowsOwn new
   rises : (p : ℕ) → slice_index old.known p ≤ slice_index new.known p
   joined : (others : List ℕ) (n : ℕ)
       → slice_set (join new.known others) old.number n
-      ≡ slice_set (join old.known (join (join_all reported) others)) old.number n
+      ≡ slice_set (join old.known (join (join_all received) others)) old.number n
 
 learns_nothing : (old new : MemberState) → new.number ≡ old.number → new.known ≡ old.known → new.log ≡ old.log
     → KnowsOwn old
@@ -132,28 +132,28 @@ learns_nothing old new number known log is = record {
   joined = λ others n. ap (λ (v : List ℕ). slice_set (join v others) old.number n) known;
 }
 
-learns_vector : (reported : List ℕ) (old new : MemberState) → slice_index reported old.number ≤ length old.log
-    → new.number ≡ old.number → new.known ≡ join old.known reported → new.log ≡ old.log → KnowsOwn old
-    → Learns (reported ∷ []) old new
+learns_vector : (received : List ℕ) (old new : MemberState) → slice_index received old.number ≤ length old.log
+    → new.number ≡ old.number → new.known ≡ join old.known received → new.log ≡ old.log → KnowsOwn old
+    → Learns (received ∷ []) old new
 unfolding join_all
-learns_vector reported old new few number known log is =
-    let at = join-at old.known reported in
+learns_vector received old new few number known log is =
+    let at = join-at old.known received in
     let lasting = ap (λ (l : List Post). length l) log in
     record {
       number = number;
       knows = record {
-        member = omega (arith, number, ap (λ (v : List ℕ). length v) known, is.member, long_join old.known reported);
+        member = omega (arith, number, ap (λ (v : List ℕ). length v) known, is.member, long_join old.known received);
         own =
             ap (λ (v : List ℕ). slice_index v new.number) known
-            ∙ ap (slice_index (join old.known reported)) number
+            ∙ ap (slice_index (join old.known received)) number
             ∙ at old.number
             ∙ omega (arith, is.own, few, lasting);
       };
       rises = λ p. omega (arith, ap (λ (v : List ℕ). slice_index v p) known, at p);
       joined = λ others n.
           ap (λ (v : List ℕ). slice_set (join v others) old.number n) known
-          ∙ ap (λ (v : List ℕ). slice_set v old.number n) (join_assoc old.known reported others)
-          ∙ ap (λ (v : List ℕ). slice_set (join old.known (join v others)) old.number n) (sym (join-[] reported));
+          ∙ ap (λ (v : List ℕ). slice_set v old.number n) (join_assoc old.known received others)
+          ∙ ap (λ (v : List ℕ). slice_set (join old.known (join v others)) old.number n) (sym (join-[] received));
     }
 
 learns_own : (post : Post) (old new : MemberState) → new.number ≡ old.number
@@ -210,16 +210,16 @@ learns_published g post time draw a is false = learns_nothing a a refl refl refl
 
 -- a vector is taken that reports no more publications of the member than it made
 learns_heard : (time draw : ℕ) (a : MemberState) (r : Result (List ℕ) HearRefusal)
-    → ((reported : List ℕ) → r ≡ Ok reported → slice_index reported a.number ≤ length a.log) → KnowsOwn a
+    → ((received : List ℕ) → r ≡ Ok received → slice_index received a.number ≤ length a.log) → KnowsOwn a
     → Learns (vector_taken r) a (if_heard time draw a r)
-learns_heard time draw a (Ok reported) few is =
-    learns_vector reported a (if_heard time draw a (Ok reported)) (few reported refl) refl refl refl is
+learns_heard time draw a (Ok received) few is =
+    learns_vector received a (if_heard time draw a (Ok received)) (few received refl) refl refl refl is
 learns_heard time draw a (Err refusal) few is = learns_nothing a a refl refl refl is
 
 learns_joined : (a : MemberState) (r : Result (List ℕ) HearRefusal)
-    → ((reported : List ℕ) → r ≡ Ok reported → slice_index reported a.number ≤ length a.log) → KnowsOwn a
+    → ((received : List ℕ) → r ≡ Ok received → slice_index received a.number ≤ length a.log) → KnowsOwn a
     → Learns (vector_taken r) a (if_joined a r)
-learns_joined a (Ok reported) few is = learns_vector reported a (if_joined a (Ok reported)) (few reported refl) refl
+learns_joined a (Ok received) few is = learns_vector received a (if_joined a (Ok received)) (few received refl) refl
     refl refl is
 learns_joined a (Err refusal) few is = learns_nothing a a refl refl refl is
 
@@ -254,13 +254,13 @@ learns_by g (Withdraw seq time draw) a is = go (has_unwithdrawn a.log seq) where
   go true = learns_published g (Withdraws seq) time draw a is (nat_lt (length a.log) 65535)
   go false = learns_nothing a a refl refl refl is
 learns_by g (Hear octets time draw) a is =
-    learns_heard time draw a (hear_verdict g a octets) (λ reported p. (reported_is g a octets reported p).not_ahead) is
-learns_by g (HearVector reported time draw) a is =
-    learns_heard time draw a (vector_verdict a reported) (λ taken p. (taken_vector a reported taken p).1) is
+    learns_heard time draw a (hear_verdict g a octets) (λ received p. (received_is g a octets received p).not_ahead) is
+learns_by g (HearVector received time draw) a is =
+    learns_heard time draw a (vector_verdict a received) (λ taken p. (taken_vector a received taken p).1) is
 learns_by g (JoinFrom octets) a is =
-    learns_joined a (hear_verdict g a octets) (λ reported p. (reported_is g a octets reported p).not_ahead) is
-learns_by g (JoinVector reported) a is =
-    learns_joined a (vector_verdict a reported) (λ taken p. (taken_vector a reported taken p).1) is
+    learns_joined a (hear_verdict g a octets) (λ received p. (received_is g a octets received p).not_ahead) is
+learns_by g (JoinVector received) a is =
+    learns_joined a (vector_verdict a received) (λ taken p. (taken_vector a received taken p).1) is
 learns_by g (Fire time draw) a is = learns_nothing a (after_call g (Fire time draw) a) refl refl refl is
 learns_by g (Claim f) a is = go (claim_of (member_plan a) f) where
   go : (claim : Option Part) → Learns [] a (if_claimed f a claim)
@@ -320,7 +320,7 @@ join_all-append (v ∷ vs) ws = ap (join v) (join_all-append vs ws) ∙ sym (joi
 
 known_by_all : (g : GroupKeys) (calls : List MemberCall) (a : MemberState) → KnowsOwn a
     → (after_calls g calls a).known
-    ≡ slice_set (join a.known (join_all (vectors_reported g calls a))) a.number (length (after_calls g calls a).log)
+    ≡ slice_set (join a.known (join_all (vectors_received g calls a))) a.number (length (after_calls g calls a).log)
 unfolding join_all
 known_by_all g [] a is =
     sym (ap (λ (v : List ℕ). slice_set v a.number (length a.log)) (join-[] a.known)
@@ -328,13 +328,13 @@ known_by_all g [] a is =
 known_by_all g (call ∷ calls) a is =
     let next = after_call g call a in
     let one = learns_by g call a is in
-    let reported = vector_of_call g a call in
-    let others = vectors_reported g calls next in
+    let received = vector_of_call g a call in
+    let others = vectors_received g calls next in
     let last = length (after_calls g calls next).log in
     known_by_all g calls next one.knows
     ∙ ap (λ (i : ℕ). slice_set (join next.known (join_all others)) i last) one.number
     ∙ one.joined (join_all others) last
-    ∙ ap (λ (v : List ℕ). slice_set (join a.known v) a.number last) (sym (join_all-append reported others))
+    ∙ ap (λ (v : List ℕ). slice_set (join a.known v) a.number last) (sym (join_all-append received others))
 
 pub known_is_the_join : KnownIsTheJoin
 unfolding join_all

@@ -9,7 +9,7 @@ use Rattle.svs_sync.specs.Suppression.{periodic}
 use Rattle.repo_plan.specs.declared.part.Part.{Part}
 use Rattle.sorted_lists.specs.SortedList.{by_order, keys, Rises, contains, insert_key, with_value}
 use Rattle.sorted_lists.specs.Range.{numbers_from}
-use Rattle.repo_plan.specs.Parts.{Pair, part_cmp, part_of, parts_of, parts_after}
+use Rattle.repo_plan.specs.Parts.{Pair, part_cmp, part_of, parts_of, last_part}
 use Rattle.sorted_lists.proofs.Orders.{Exact, less_back}
 use Rattle.repo_plan.proofs.Orders.{exact_parts}
 use Rattle.sorted_lists.proofs.Sets.{each_before, in_contains, keys-with_value, rises_insert}
@@ -22,14 +22,14 @@ use Rattle.group_model.specs.Changes as group
 use Rattle.group_model.specs.World.{no_member}
 use Rattle.repo_holdings.specs.Records.{Packet}
 use Rattle.repo_member.specs.Groups.{publisher_at}
-use Rattle.repo_member.specs.MemberState.{MemberState, member_opening, new_packets, next_seq}
+use Rattle.repo_member.specs.MemberState.{MemberState, initial_member, new_packets, next_seq}
 use Rattle.repo_holdings.specs.Taking.{Fetched}
 use Rattle.repo_holdings.specs.NewPublications.{as_parts, with_packets}
 use Rattle.repo_holdings.specs.Taking.{with_fetched}
 use Rattle.repo_member.specs.MemberState.{member_takes}
 use Rattle.repo_holdings.specs.Taking.{with_all_tries}
 use Rattle.repo_member.specs.InGroup.{in_group, BeginsAlike, PublishesAlike, AcceptsAlike, TakesAlike, asked_for}
-use Rattle.repo_member.specs.InGroup.{that_came}
+use Rattle.repo_member.specs.InGroup.{parts_fetched}
 
 -- ---- a key that a set has already
 
@@ -90,7 +90,7 @@ pub publishes_alike : PublishesAlike
 publishes_alike g post time draw a r =
     let pair : Pair = (a.number, next_seq a) in
     let made : List (List ℕ) = packets (publisher_at g a.number) (next_seq a) post in
-    let parts : keys (new_packets g post a) ≡ parts_of pair (parts_after (shape_in post)) =
+    let parts : keys (new_packets g post a) ≡ parts_of pair (last_part (shape_in post)) =
     keys_as_parts pair 0 made
     ∙ ap (λ (n : ℕ). map (part_of pair) (numbers_from 0 n))
     (packets-length (publisher_at g a.number) (next_seq a) post) in
@@ -128,12 +128,12 @@ takes_alike tries (x ∷ xs) a r h =
     outcome held (with_each_tried tries (asked_for xs) (with_tries x.part x.attempts a.attempts)))
     (came_first x (filter (λ (y : Fetched). is_some y.packet) xs) x.packet a.store r)
     ∙ ap (λ (attempts : List (Part × ℕ)).
-    outcome (insert_keys (that_came (x ∷ xs)) (keys a.store)) (with_each_tried tries (asked_for xs) attempts)) tried
+    outcome (insert_keys (parts_fetched (x ∷ xs)) (keys a.store)) (with_each_tried tries (asked_for xs) attempts)) tried
 
 -- however often each part was tried
 pub takes_in_group : (xs : List Fetched) (a : MemberState) → Rises part_cmp (keys a.store)
     → in_group (member_takes xs a)
-    ≡ record (gains (that_came xs) (in_group a)) { attempts = with_all_tries xs a.attempts }
+    ≡ record (gains (parts_fetched xs) (in_group a)) { attempts = with_all_tries xs a.attempts }
 takes_in_group [] a r = refl
 takes_in_group (x ∷ xs) a r =
     let next : MemberState =
@@ -154,11 +154,11 @@ at_number f first (suc n) (suc j) h =
     let e : (first + 1) + j ≡ first + suc j = omega arith in at_number f (first + 1) n j (omega (arith, h)) ∙ ap f e
 
 pub begins_alike : BeginsAlike
-begins_alike out n j h =
-    let begun : ℕ → ℕ → Member = λ i deadline. record (in_group (member_opening n i 0 (out.draw i 0))) {
+begins_alike env n j h =
+    let begun : ℕ → ℕ → Member = λ i deadline. record (in_group (initial_member n i 0 (env.draw i 0))) {
       machine = record { members = n; heard = None; deadline = deadline; draws = 1 };
     } in
-    let now : 0 + periodic (out.draw j 0) ≡ periodic (out.draw j 0) = omega arith in
+    let now : 0 + periodic (env.draw j 0) ≡ periodic (env.draw j 0) = omega arith in
     let e : 0 + j ≡ j = omega arith in
-    let at : ℕ → Member = λ i. begun i (periodic (out.draw i 0)) in
+    let at : ℕ → Member = λ i. begun i (periodic (env.draw i 0)) in
     ap (begun j) now ∙ sym (at_number at 0 n j h ∙ ap at e)

@@ -15,7 +15,7 @@ use Rattle.repo_object.specs.Objects.Post.{Offers}
 use Rattle.repo_process.specs.Processes.{Process, BlockState, object_of, closed, block_state}
 use Rattle.repo_process.specs.Processes.BlockState.{Unknown, Already, Waiting, Whole}
 use Rattle.group_model.specs.Publications.{pair_in}
-use Rattle.group_model.specs.Member.{Member, catalogued_under, member_hides_all}
+use Rattle.group_model.specs.Member.{Member, catalogued_under, deletes_all}
 use Rattle.group_model.specs.Changes as group
 use Rattle.group_model.specs.Replies.{Reply}
 use Rattle.group_model.specs.World.{World, member, with_member, logs}
@@ -62,7 +62,7 @@ module _ (w : World) (j : ℕ) (g : GroupKeys) (a : MemberState) (is : IsMemberO
         go false = is.same
   obeyed (Check process) = is.same
   obeyed (Delete name) =
-      changed w j a is (λ m. member_hides_all (catalogued_under (logs w) m name) m)
+      changed w j a is (λ m. deletes_all (catalogued_under (logs w) m name) m)
       ∙ sym (deletes_alike g (logs w) name a consistent.published consistent.stores)
 
   stored_before : length (member w j).held ≡ length a.store
@@ -106,23 +106,23 @@ module _ (w : World) (j : ℕ) (g : GroupKeys) (a : MemberState) (is : IsMemberO
         done n = record (code_only 200) { deleted = Some n }
 
 pub order_is_event : OrderIsEvent
-order_is_event out w j (Ok order) g a is consistent = obeyed w j g a is consistent order.1
-order_is_event out w j (Err code) g a is consistent = is.same
+order_is_event env w j (Ok order) g a is consistent = obeyed w j g a is consistent order.1
+order_is_event env w j (Err code) g a is consistent = is.same
 
 pub order_is_answered : OrderIsAnswered
-order_is_answered out w j (Ok order) g a is consistent =
+order_is_answered env w j (Ok order) g a is consistent =
     ap (λ (x : Answer). Reply.Commanded x) (answered w j g a is consistent order.1)
-order_is_answered out w j (Err code) g a is consistent = refl
+order_is_answered env w j (Err code) g a is consistent = refl
 
 pub issue_is_event : IssueIsEvent
-issue_is_event out w j client command g a is consistent =
+issue_is_event env w j client command g a is consistent =
     let made : World =
     record w { issued = w.issued ++ record { member = j; client = client; command = command } ∷ [] } in
     obeyed made j g a (record { there = is.there; number = is.number; same = is.same })
     (record { published = consistent.published; stores = consistent.stores }) command
 
 pub issue_is_answered : IssueIsAnswered
-issue_is_answered out w j client command g a is consistent =
+issue_is_answered env w j client command g a is consistent =
     ap (λ (x : Answer). Reply.Commanded x) (answered w j g a is consistent command)
 
 -- ---- blocks
@@ -147,8 +147,8 @@ not_spent n h = go (nat_le 65535 n) refl h where
   go false e k = lt-ltb n 65535 (omega (arith, leb-false 65535 n e))
 
 pub block_is_event : BlockIsEvent
-block_is_event out w j process index content g a is order taken =
-    ap (λ (s : BlockState). member (after_block out w j process s) j)
+block_is_event env w j process index content g a is order taken =
+    ap (λ (s : BlockState). member (after_block env w j process s) j)
     (block_states_alike w j process index content a is)
     ∙ go (member_block a process index content)
     (ap (if_whole w j) (sym (block_states_alike w j process index content a is)) ∙ taken) where
@@ -156,8 +156,8 @@ block_is_event out w j process index content g a is order taken =
       log = ap (λ (m : Member). length m.log) is.same
 
       go : (state : BlockState) → if_whole w j state ≡ None
-          → member (after_block out w j process state) j
-          ≡ in_group (own.after_block g process w.time (drawn out w j) a state)
+          → member (after_block env w j process state) j
+          ≡ in_group (own.after_block g process w.time (drawn env w j) a state)
       go Unknown k = is.same
       go Already k = is.same
       go (Waiting p) k = changed w j a is (group.member_with_process process p)
@@ -167,12 +167,12 @@ block_is_event out w j process index content g a is order taken =
           let still = kept_member w j process (closed p) a is in
           let room : nat_lt (length a.log) 65535 ≡ true =
           ap (λ (n : ℕ). nat_lt n 65535) (sym log) ∙ not_spent (length (member w j).log) k in
-          let draws : drawn out v j ≡ drawn out w j =
-          ap (λ (m : Member). out.draw j m.machine.draws)
+          let draws : drawn env v j ≡ drawn env w j =
+          ap (λ (m : Member). env.draw j m.machine.draws)
           (still.same ∙ sym (ap (group.member_with_process process (closed p)) is.same)) in
-          publish_is_event out v j g (object_of p) kept still order
+          publish_is_event env v j g (object_of p) kept still order
           ∙ ap (λ (d : ℕ). in_group (member_publishes g (Offers (object_of p)) w.time d kept)) draws
           ∙ sym
           (ap
-          (λ (b : Bool). in_group (cond b (member_publishes g (Offers (object_of p)) w.time (drawn out w j) kept) a))
+          (λ (b : Bool). in_group (cond b (member_publishes g (Offers (object_of p)) w.time (drawn env w j) kept) a))
           room)

@@ -6,7 +6,7 @@ use Rattle.std.specs.List.{All}
 use Rattle.std.proofs.lemmas.Bool.{true≢false, and_parts, not-true}
 use Rattle.std.proofs.lemmas.List.{length-set, length-replicate, get_or-set_same, set-get_or, length_push, take_all}
 use Rattle.std.proofs.lemmas.List.Elements.{All-head, All-tail, All-weaker}
-use Rattle.svs_sync.specs.KeptVector.{Keeper, steady_kept, fired_kept, hears_kept}
+use Rattle.svs_sync.specs.SyncStates.{SyncState, steady_joined, fired_joined, hears_joined}
 use Rattle.repo_plan.specs.declared.part.Part.{Part}
 use Rattle.sorted_lists.specs.SortedList.{keys, Rises, value_of}
 use Rattle.repo_plan.specs.Parts.{Pair, part_cmp}
@@ -40,8 +40,8 @@ use Rattle.repo_member.specs.Groups.{GroupKeys}
 use Rattle.repo_member.specs.MemberState.{MemberState, member_plan, member_publishes, member_claims, member_takes}
 use Rattle.repo_holdings.specs.Taking.{Fetched}
 use Rattle.repo_member.specs.MemberState.{member_ends_claims, member_clears}
-use Rattle.repo_member.specs.InGroup.{in_group, AreLogs, GrowInto, AreItsPackets, CameConsistently, asked_for}
-use Rattle.repo_member.specs.InGroup.{that_came}
+use Rattle.repo_member.specs.InGroup.{in_group, AreLogs, GrowInto, AreItsPackets, IsConsistentFetch, asked_for}
+use Rattle.repo_member.specs.InGroup.{parts_fetched}
 use Rattle.repo_holdings.specs.Taking.{with_all_tries}
 use Rattle.repo_member.specs.ConsistentMembers.{IsConsistentMember}
 use Rattle.repo_member.specs.ConsistentChanges.{BeginsConsistent, PublishesConsistent, OthersPublish, LogsHaveGrown}
@@ -155,30 +155,31 @@ others_publish g logs later a grows wide last t =
 -- ---- what is told
 
 pub learns_consistent : LearnsConsistent
-learns_consistent g logs reported a v t = record {
+learns_consistent g logs received a v t = record {
   there = t.there;
   log = t.log;
   sound =
-      with_machine logs a.number (group.learns 0 0 reported (in_group a)) a.machine a.insertions.processes
-      a.insertions.next_process (sound_learns 0 0 logs a.number reported (in_group a) v t.sound) t.sound.heard;
+      with_machine logs a.number (group.learns 0 0 received (in_group a)) a.machine a.insertions.processes
+      a.insertions.next_process (sound_learns 0 0 logs a.number received (in_group a) v t.sound) t.sound.heard;
   machine = t.machine;
   packets = t.packets;
 }
 
 pub hears_consistent : HearsConsistent
-hears_consistent g logs reported time draw a v t = record {
+hears_consistent g logs received time draw a v t = record {
   there = t.there;
   log = t.log;
-  sound = sound_learns draw time logs a.number reported (in_group a) v t.sound;
+  sound = sound_learns draw time logs a.number received (in_group a) v t.sound;
   machine =
-      still_wide time reported a.known draw a.machine (hears_kept time reported a.known draw a.machine a.machine.heard)
+      still_wide time received a.known draw a.machine
+      (hears_joined time received a.known draw a.machine a.machine.heard)
       refl
       ∙ t.machine;
   packets = t.packets;
 }
 
 -- only the machine changes
-machine_consistent : (g : GroupKeys) (logs : Logs) (a : MemberState) (machine : Keeper) → machine.members
+machine_consistent : (g : GroupKeys) (logs : Logs) (a : MemberState) (machine : SyncState) → machine.members
     ≡ a.machine.members
     → HeardConsistently logs machine.heard → IsConsistentMember g logs a
     → IsConsistentMember g logs (record a { machine = machine })
@@ -193,14 +194,14 @@ machine_consistent g logs a machine wide heard t = record {
 
 pub fires_consistent : FiresConsistent
 fires_consistent g logs time draw a t =
-    machine_consistent g logs a (fired_kept time draw a.machine) (fired_wide time draw a.machine)
+    machine_consistent g logs a (fired_joined time draw a.machine) (fired_wide time draw a.machine)
     (go (nat_lt time a.machine.deadline)) t where
-      go : (b : Bool) → HeardConsistently logs (cond b a.machine (steady_kept time draw a.machine)).heard
+      go : (b : Bool) → HeardConsistently logs (cond b a.machine (steady_joined time draw a.machine)).heard
       go true = t.sound.heard
       go false = tt
 
 pub resets_consistent : ResetsConsistent
-resets_consistent g logs time draw a t = machine_consistent g logs a (steady_kept time draw a.machine) refl tt t
+resets_consistent g logs time draw a t = machine_consistent g logs a (steady_joined time draw a.machine) refl tt t
 
 -- ---- commands and blocks
 
@@ -373,17 +374,17 @@ all_tried (x ∷ xs) tried h =
     all_tried xs (with_tries x.part x.attempts tried) (tried_once_more x.part x.attempts tried h)
 
 -- a part that came
-came_from : (xs : List Fetched) (P : Part → Type 0) → All (λ (x : Fetched). IfSome x.packet (λ octets. P x.part)) xs
-    → (t : Part) → In t (that_came xs) → P t
-came_from [] P all t i = absurd i
-came_from (x ∷ xs) P all t i =
+response_from : (xs : List Fetched) (P : Part → Type 0) → All (λ (x : Fetched). IfSome x.packet (λ octets. P x.part)) xs
+    → (t : Part) → In t (parts_fetched xs) → P t
+response_from [] P all t i = absurd i
+response_from (x ∷ xs) P all t i =
     go x.packet (All-head (λ (y : Fetched). IfSome y.packet (λ octets. P y.part)) x xs all) i
-    (came_from xs P (All-tail (λ (y : Fetched). IfSome y.packet (λ octets. P y.part)) x xs all) t) where
+    (response_from xs P (All-tail (λ (y : Fetched). IfSome y.packet (λ octets. P y.part)) x xs all) t) where
       go : (o : Option (List ℕ)) → IfSome o (λ octets. P x.part)
           → In t
           (asked_for (cond (is_some o) (x ∷ filter (λ (y : Fetched). is_some y.packet) xs)
           (filter (λ (y : Fetched). is_some y.packet) xs)))
-          → (In t (that_came xs) → P t) → P t
+          → (In t (parts_fetched xs) → P t) → P t
       go None h j rest = rest j
       go (Some octets) h (inl same) rest = subst P (sym same) h
       go (Some octets) h (inr j) rest = rest j
@@ -399,18 +400,18 @@ module _ (g : GroupKeys) (logs : Logs) (xs : List Fetched) (a : MemberState) (ar
   is_free None t h = h
   is_free (Some octets) t h = h.unclaimed
 
-  open_parts : (t : Part) → In t (that_came xs)
+  open_parts : (t : Part) → In t (parts_fetched xs)
       → (is_wanted (member_plan a) t ≡ true) × (is_claimed (member_plan a) t ≡ false)
   open_parts t i =
       let free : is_unclaimed (member_plan a) t ≡ true =
-      came_from xs (λ (u : Part). is_unclaimed (member_plan a) u ≡ true)
+      response_from xs (λ (u : Part). is_unclaimed (member_plan a) u ≡ true)
       (All-weaker (λ (x : Fetched). IfSome x.packet (IsConsistentArrival g logs a x.part))
       (λ (x : Fetched). IfSome x.packet (λ octets. is_unclaimed (member_plan a) x.part ≡ true))
       (λ x h. is_free x.packet x.part h) xs came) t i in
       let both = and_parts (is_wanted (member_plan a) t) (not (is_claimed (member_plan a) t)) free in
       (both.0, not-true (is_claimed (member_plan a) t) both.1)
 
-  is_its : (o : Option (List ℕ)) (t : Part) → IfSome o (IsConsistentArrival g logs a t) → CameConsistently g logs t o
+  is_its : (o : Option (List ℕ)) (t : Part) → IfSome o (IsConsistentArrival g logs a t) → IsConsistentFetch g logs t o
   is_its None t h = tt
   is_its (Some octets) t h = record {
     published =
@@ -426,7 +427,7 @@ module _ (g : GroupKeys) (logs : Logs) (xs : List Fetched) (a : MemberState) (ar
     sound =
         subst (IsSoundMember logs a.number)
         (sym (sym (ap in_group (members_take_all xs a)) ∙ takes_in_group xs a consistent.sound.in_order.held))
-        (sound_gains logs a.number (that_came xs) (with_all_tries xs a.attempts) (in_group a)
+        (sound_gains logs a.number (parts_fetched xs) (with_all_tries xs a.attempts) (in_group a)
         (λ t i. subst (λ (p : PlanState). is_wanted p t ≡ true) plans (open_parts t i).0)
         (λ t i. subst (λ (p : PlanState). is_claimed p t ≡ false) plans (open_parts t i).1)
         (rises_all_tried xs a.attempts consistent.sound.in_order.attempts)
@@ -434,7 +435,7 @@ module _ (g : GroupKeys) (logs : Logs) (xs : List Fetched) (a : MemberState) (ar
     machine = consistent.machine;
     packets = subst (AreItsPackets g logs) (members_take_all xs a) (takes_consistently g logs xs a
         (All-weaker (λ (x : Fetched). IfSome x.packet (IsConsistentArrival g logs a x.part))
-        (λ (x : Fetched). CameConsistently g logs x.part x.packet) (λ x h. is_its x.packet x.part h) xs came)
+        (λ (x : Fetched). IsConsistentFetch g logs x.part x.packet) (λ x h. is_its x.packet x.part h) xs came)
         (consistent_stores g logs a consistent)).packets;
   })
 

@@ -8,7 +8,7 @@ use Rattle.std.proofs.lemmas.Option.{slice_get-get_or}
 use Rattle.sha2.specs.Sha256.{sha256}
 use Rattle.repo_plan.specs.declared.part.Part.{Part}
 use Rattle.sorted_lists.specs.SortedList.{keys, value_of}
-use Rattle.repo_plan.specs.Parts.{part_cmp, pair_of, record_of, parent, parts_after, index_packets}
+use Rattle.repo_plan.specs.Parts.{part_cmp, pair_of, record_of, parent, last_part, index_packets}
 use Rattle.repo_plan.specs.Parts.{shape_of_segments}
 use Rattle.repo_plan.specs.Plan.{PlanState, is_wanted}
 use Rattle.repo_plan.proofs.Orders.{exact_parts}
@@ -151,7 +151,7 @@ module _ (g : GroupKeys) (logs : Logs) (h : HoldingsState) (are : AreLogs g logs
             (unwrap_or o []))
             (digest_found g logs a are stores t published.there object is
             (omega (arith, leb-false t.part (index_packets (length object.contents)) q))
-            (subst (λ (post : Post). t.part ≤ parts_after (shape_in post)) is published.counted)
+            (subst (λ (post : Post). t.part ≤ last_part (shape_in post)) is published.counted)
             (subst (λ (post : Post). member_holds (in_group a) (parent (shape_in post) t) ≡ true) is held.with_parent)
             octets its_packet)
 
@@ -176,8 +176,8 @@ module _ (g : GroupKeys) (logs : Logs) (h : HoldingsState) (are : AreLogs g logs
         (unwrap_or (listing_at h.store (pair_of t)) nothing_listed)
         ≡ want_of_post g t (post_at logs (pair_of t)) (published_packet g logs t)
     of_post held p (Withdraws seq) is =
-        let none : t.part ≤ parts_after (shape_in (Withdraws seq)) =
-        subst (λ (post : Post). t.part ≤ parts_after (shape_in post)) is published.counted in
+        let none : t.part ≤ last_part (shape_in (Withdraws seq)) =
+        subst (λ (post : Post). t.part ≤ last_part (shape_in post)) is published.counted in
         absurd (omega (arith, none, eqb-false t.part 0 p))
     of_post held p (Offers object) is =
         wanted_after t w held p object is octets its

@@ -24,9 +24,9 @@ use Rattle.group_model.specs.Publications.{Logs, last_of}
 use Rattle.group_model.specs.Sound.{IsConsistentVector}
 use Rattle.repo_member.specs.declared.refusals.HearRefusal.TheVariants.{OwnNumberAhead}
 use Rattle.repo_member.specs.Groups.{NodeKeys, GroupKeys, HaveKeys, IsPlainNodeName, node_at, member_key}
-use Rattle.repo_member.specs.Verdicts.{sync_of, reported_verdict}
+use Rattle.repo_member.specs.Verdicts.{sync_of, received_verdict}
 use Rattle.repo_member.specs.InGroup.{AreLogs}
-use Rattle.repo_member.specs.ConsistentSyncs.{KeysAreFound, SyncsAreReported, SyncsAreTaken}
+use Rattle.repo_member.specs.ConsistentSyncs.{KeysAreFound, SyncsAreReceived, SyncsAreTaken}
 use Rattle.repo_member.proofs.GroupLemmas.{ring_length}
 
 -- ---- the first place
@@ -137,9 +137,9 @@ module _ (g : GroupKeys) (logs : Logs) (are : AreLogs g logs) where
   node_name k l =
       subst IsPlainNodeName (sym (unwrap_or-slice_get g.members.names k [])) (are.group.members.node_names k [] l)
 
-  pub sync_reported : (sender : ℕ) (v : List ℕ) → sender < length g.members.names → IsConsistentVector logs v
+  pub sync_received : (sender : ℕ) (v : List ℕ) → sender < length g.members.names → IsConsistentVector logs v
       → sync_verdict g.name g.members.names g.members.ring (sync_of g sender v) ≡ Ok (sender, v)
-  sync_reported sender v there t =
+  sync_received sender v there t =
       let node = node_name sender there in
       made_is_checked g.name g.members.names g.members.ring v (key_name (node_at g sender)) (member_key g sender) sender
       (member_found g are.group.members sender there) (key_is g are.group.members sender there)
@@ -149,12 +149,12 @@ module _ (g : GroupKeys) (logs : Logs) (are : AreLogs g logs) where
       (IsName-key (node_at g sender) node.valid)
       (record { node = node_at g sender; parts = refl; limits = (node.some, node.short) })
 
-pub syncs_are_reported : SyncsAreReported
-syncs_are_reported g logs sender vector are there t = sync_reported g logs are sender vector there t
+pub syncs_are_received : SyncsAreReceived
+syncs_are_received g logs sender vector are there t = sync_received g logs are sender vector there t
 
 pub syncs_are_taken : SyncsAreTaken
 syncs_are_taken g logs a sender vector are consistent there t =
-    ap (reported_verdict a) (sync_reported g logs are sender vector there t)
+    ap (received_verdict a) (sync_received g logs are sender vector there t)
     ∙ ap (λ (b : Bool). cond b (Err (OwnNumberAhead (length a.log) (slice_index vector a.number))) (Ok vector))
     (false_from_ne_true (nat_lt (length a.log) (slice_index vector a.number)) (λ more.
     let h : length a.log < slice_index vector a.number = ltb-true (length a.log) (slice_index vector a.number) more in

@@ -8,7 +8,7 @@ use Rattle.repo_plan.specs.Parts.{Pair, pair_cmp}
 use Rattle.repo_catalog.specs.Entries.{publication_of, entry_has_name, all_named}
 use Rattle.group_model.specs.Publications.{Logs, Publication, pair_in, object_in, published_entry}
 use Rattle.group_model.specs.Commands.{is_equal_name}
-use Rattle.group_model.specs.Member.{Member, catalogued, catalogued_under, member_hides_all}
+use Rattle.group_model.specs.Member.{Member, catalogued, catalogued_under, deletes_all}
 use Rattle.repo_member.specs.Groups.{GroupKeys}
 use Rattle.repo_member.specs.MemberState.{MemberState}
 use Rattle.repo_member.specs.Deleting as member_state
@@ -19,13 +19,13 @@ use Rattle.repo_member.proofs.HiddenParts.{hidden_one}
 use Rattle.repo_member.proofs.GroupCatalogues.{lists_alike}
 
 pub hides_alike : (ps : List Publication) (a : MemberState)
-    → in_group (member_state_hides (map pair_in ps) a) ≡ member_hides_all ps (in_group a)
+    → in_group (member_state_hides (map pair_in ps) a) ≡ deletes_all ps (in_group a)
 hides_alike [] a = refl
 hides_alike (p ∷ ps) a =
     let shown : List Part → Member =
     λ held. record (in_group a) { held = held; hidden = insert_key pair_cmp (pair_in p) a.hidden } in
     hides_alike ps (hidden_one (pair_in p) a)
-    ∙ ap (λ (held : List Part). member_hides_all ps (shown held)) (keys_outside (pair_in p) a.store)
+    ∙ ap (λ (held : List Part). deletes_all ps (shown held)) (keys_outside (pair_in p) a.store)
 
 named_entries : (name : List Component) (ps : List Publication)
     → all_named name (map published_entry ps) ≡ map pair_in (filter (λ p. is_equal_name (object_in p).name name) ps)

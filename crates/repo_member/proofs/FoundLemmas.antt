@@ -17,10 +17,11 @@ use Rattle.sorted_lists.specs.SortedList.{keys, IsBefore, Rises, contains, value
 use Rattle.sorted_lists.proofs.Orders.{Exact, less_back}
 use Rattle.sorted_lists.specs.Range.{numbers_from}
 use Rattle.repo_plan.specs.declared.shape.Shape.{Shape}
-use Rattle.repo_plan.specs.Parts.{Pair, pair_cmp, part_cmp, pair_of, part_of, parts_of, parts_after, parent}
+use Rattle.repo_plan.specs.Parts.{Pair, pair_cmp, part_cmp, pair_of, part_of, parts_of, last_part, parent}
 use Rattle.repo_plan.specs.Parts.{shape_of_segments}
-use Rattle.repo_plan.specs.Plan.{PlanState, holds, knows, is_in, is_asked, can_be_asked, shape_of, is_claim_in}
-use Rattle.repo_plan.specs.Plan.{claims_part_in, opening}
+use Rattle.repo_plan.specs.Plan.{PlanState, holds, knows, is_in, may_be_asked_for, is_listed_part, shape_of}
+use Rattle.repo_plan.specs.Plan.{is_claim_in}
+use Rattle.repo_plan.specs.Plan.{claims_part_in, initial_plan}
 use Rattle.repo_plan.specs.Sound.{PlanIsSound}
 use Rattle.repo_plan.proofs.Orders.{exact_pairs, exact_parts}
 use Rattle.sorted_lists.proofs.Ranges.{length-numbers}
@@ -51,7 +52,7 @@ use Rattle.repo_holdings.proofs.AskedLemmas.{listing_sized}
 
 -- how many parts a publication of so many segments has after its record
 abbrev pub parts_counted : ℕ → ℕ
-parts_counted n = parts_after (shape_of_segments n)
+parts_counted n = last_part (shape_of_segments n)
 
 -- an object of so many segments whose record is stored, and every part after it
 pub record IsWhole (packets : List Packet) (pair : Pair) (n : ℕ) : Type 0 where
@@ -161,14 +162,14 @@ module _ (p : PlanState) (packets : List Packet) (pair : Pair) (n : ℕ) (s : Pl
       ∙ ap (option_map shape_stated) whole.says
       ∙ ap (λ (k : ℕ). Some (shape_of_segments k)) whole.counts
 
-  counted : (t : Part) → is_asked p t ≡ true → pair_of t ≡ pair → t.part ≤ parts_counted n
+  counted : (t : Part) → may_be_asked_for p t ≡ true → pair_of t ≡ pair → t.part ≤ parts_counted n
   counted t asked here =
-      let can : can_be_asked p.held (shape_of p (pair_of t)) t ≡ true =
-      (and_parts (knows p (pair_of t)) (can_be_asked p.held (shape_of p (pair_of t)) t) asked).1 in
-      let reported : can_be_asked p.held (Some (shape_of_segments n)) t ≡ true =
-      ap (λ (o : Option Shape). can_be_asked p.held o t) (sym shaped ∙ ap (shape_of p) (sym here)) ∙ can in
+      let can : is_listed_part p.held (shape_of p (pair_of t)) t ≡ true =
+      (and_parts (knows p (pair_of t)) (is_listed_part p.held (shape_of p (pair_of t)) t) asked).1 in
+      let received : is_listed_part p.held (Some (shape_of_segments n)) t ≡ true =
+      ap (λ (o : Option Shape). is_listed_part p.held o t) (sym shaped ∙ ap (shape_of p) (sym here)) ∙ can in
       elim (or_cases (t.part == 0)
-      (nat_le t.part (parts_counted n) && contains part_cmp p.held (parent (shape_of_segments n) t)) reported) [
+      (nat_le t.part (parts_counted n) && contains part_cmp p.held (parent (shape_of_segments n) t)) received) [
         | inl first ↦ omega (arith, eqb-true t.part 0 first)
         | inr after ↦
             leb-true t.part (parts_counted n)
@@ -181,13 +182,13 @@ module _ (p : PlanState) (packets : List Packet) (pair : Pair) (n : ℕ) (s : Pl
 
   pub whole_known : knows p pair ≡ true
   whole_known =
-      (and_parts (knows p pair) (can_be_asked p.held (shape_of p pair) (part_of pair 0))
+      (and_parts (knows p pair) (is_listed_part p.held (shape_of p pair) (part_of pair 0))
       (s.held (part_of pair 0) (held_each 0 (omega arith))).asked).0
 
   -- no fetcher claims a part of it
   pub whole_unclaimed : claims_part_in p pair ≡ false
   whole_unclaimed = none p.claims differs where
-    free : (t : Part) → (b : Bool) → is_in pair t ≡ b → (is_asked p t ≡ true) × (holds p t ≡ false) → b ≡ false
+    free : (t : Part) → (b : Bool) → is_in pair t ≡ b → (may_be_asked_for p t ≡ true) × (holds p t ≡ false) → b ≡ false
     free t true q w =
         let here : pair ≡ pair_of t = eq_same exact_pairs pair (pair_of t) q in
         let there : holds p (part_of pair t.part) ≡ true = held_each t.part (counted t w.0 (sym here)) in
@@ -231,7 +232,7 @@ module _ (p : PlanState) (packets : List Packet) (pair : Pair) (n : ℕ) (s : Pl
   inside_is : filter (is_in pair) (keys packets) ≡ parts_of pair (parts_counted n)
   inside_is = same_set exact_parts (filter (is_in pair) (keys packets)) (parts_of pair (parts_counted n))
       (rises_filter exact_parts.total (is_in pair) (keys packets) read.in_order)
-      (rises_numbers (opening 0) pair 0 (parts_counted n + 1)) from_inside to_inside
+      (rises_numbers (initial_plan 0) pair 0 (parts_counted n + 1)) from_inside to_inside
 
   pub packets_counted : length (packets_in pair packets) ≡ parts_counted n + 1
   packets_counted =

@@ -14,7 +14,7 @@ use Rattle.sha2.specs.Sha256.{sha256}
 use Rattle.repo_plan.specs.declared.part.Part.{Part}
 use Rattle.sorted_lists.specs.SortedList.{keys, Rises, value_of}
 use Rattle.sorted_lists.specs.Range.{numbers_from}
-use Rattle.repo_plan.specs.Parts.{Pair, pair_cmp, part_cmp, part_of, parts_of, parts_after, shape_of_segments}
+use Rattle.repo_plan.specs.Parts.{Pair, pair_cmp, part_cmp, part_of, parts_of, last_part, shape_of_segments}
 use Rattle.repo_plan.specs.Parts.{index_packets}
 use Rattle.sorted_lists.proofs.Orders.{Exact}
 use Rattle.repo_plan.proofs.Orders.{exact_pairs}
@@ -214,7 +214,7 @@ module _ (g : GroupKeys) (logs : Logs) (a : MemberState) (are : AreLogs g logs)
     lists = published_listing (publisher_at g pair.0) pair.1 object
 
     abbrev after : ℕ
-    after = parts_after (shape_of_segments (length object.contents))
+    after = last_part (shape_of_segments (length object.contents))
 
     is_object_there : IsObject object
     is_object_there = subst (IsPost pair.1) is (published_post g logs are pair there)
@@ -227,7 +227,7 @@ module _ (g : GroupKeys) (logs : Logs) (a : MemberState) (are : AreLogs g logs)
 
     parts_are : parts_in (at_pair logs pair) ≡ map (part_of pair) (0 ∷ numbers_from 1 after)
     parts_are =
-        ap (λ (post : Post). parts_of pair (parts_after (shape_in post))) is
+        ap (λ (post : Post). parts_of pair (last_part (shape_in post))) is
         ∙ (let more : after + 1 ≡ suc after = omega arith in
         ap (λ (n : ℕ). map (part_of pair) (numbers_from 0 n)) more)
 
@@ -388,7 +388,7 @@ module _ (g : GroupKeys) (logs : Logs) (a : MemberState) (are : AreLogs g logs)
     record_there =
         sym (held_of (part_of pair 0))
         ∙ each_all (member_holds m) (parts_in (at_pair logs pair)) whole (part_of pair 0)
-        (in_parts_of (parts_after (shape_in (post_at logs pair))) (part_of pair 0) (omega arith))
+        (in_parts_of (last_part (shape_in (post_at logs pair))) (part_of pair 0) (omega arith))
 
     of_post : (post : Post) → post_at logs pair ≡ post
         → entry_at a.store pair ≡ Some (published_entry (at_pair logs pair))

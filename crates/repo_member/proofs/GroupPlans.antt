@@ -12,7 +12,7 @@ use Rattle.repo_plan.proofs.Orders.{exact_parts}
 use Rattle.sorted_lists.proofs.Sets.{In, in_map, contains_in}
 use Rattle.repo_object.specs.Verdict.{stated_in}
 use Rattle.group_model.specs.Publications.{Logs, post_at, shape_at}
-use Rattle.group_model.specs.Member.{reported_by}
+use Rattle.group_model.specs.Member.{held_shapes}
 use Rattle.group_model.specs.Sound.{IsPublished}
 use Rattle.group_model.specs.Wanted.{IsWantedPart}
 use Rattle.group_model.proofs.Wants.{wants_those}
@@ -44,10 +44,10 @@ sound_stores_consistently g logs a s packets = record {
 shapes_alike : (logs : Logs) (es : List Packet)
     → ((e : Packet) → In e es → e.0.part ≡ 0
     → option_map shape_stated (stated_in e.1) ≡ Some (shape_at logs (pair_of e.0)))
-    → shapes_in es ≡ reported_by logs (keys es)
+    → shapes_in es ≡ held_shapes logs (keys es)
 shapes_alike logs [] h = refl
 shapes_alike logs (e ∷ es) h = go (e.0.part == 0) refl (shapes_alike logs es (λ x i. h x (inr i))) where
-  go : (b : Bool) → (e.0.part == 0) ≡ b → shapes_in es ≡ reported_by logs (keys es)
+  go : (b : Bool) → (e.0.part == 0) ≡ b → shapes_in es ≡ held_shapes logs (keys es)
       → kept_values (λ pair octets. option_map shape_stated (stated_in octets))
       (cond b ((pair_of e.0, e.1) ∷ records_in es) (records_in es))
       ≡ map (λ (t : Part). (pair_of t, shape_at logs (pair_of t)))
@@ -63,8 +63,8 @@ module _ (g : GroupKeys) (logs : Logs) (a : MemberState) (are : AreLogs g logs)
   stored_published e i =
       consistent.published e.0 (contains_in exact_parts (keys a.store) e.0 (in_map (λ (x : Packet). x.0) a.store e i))
 
-  shapes_reported : shapes_in a.store ≡ reported_by logs (keys a.store)
-  shapes_reported = shapes_alike logs a.store (λ e i first.
+  shapes_received : shapes_in a.store ≡ held_shapes logs (keys a.store)
+  shapes_received = shapes_alike logs a.store (λ e i first.
       let there = stored_published e i in
       let publisher = publisher_at g e.0.publisher in
       let post = post_at logs (pair_of e.0) in
@@ -79,7 +79,7 @@ module _ (g : GroupKeys) (logs : Logs) (a : MemberState) (are : AreLogs g logs)
 pub plans_alike : PlansAlike
 plans_alike g logs a are consistent =
     ap (λ (shapes : List (Pair × Shape)). let p : PlanState = record (member_plan a) { shapes = shapes } in p)
-    (shapes_reported g logs a are consistent)
+    (shapes_received g logs a are consistent)
 
 pub wants_alike : WantsAlike
 wants_alike g logs a t are consistent records =

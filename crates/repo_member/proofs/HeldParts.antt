@@ -12,17 +12,17 @@ use Rattle.std.proofs.lemmas.List.{length-replicate, get_or-replicate}
 use Rattle.std.proofs.lemmas.Option.{none-some, slice_get-get_or}
 use Rattle.svs_vector.specs.Vectors.{join}
 use Rattle.svs_vector.proofs.JoinLemmas.{length-join, join-at}
-use Rattle.svs_sync.specs.KeptVector.{Keeper}
+use Rattle.svs_sync.specs.SyncStates.{SyncState}
 use Rattle.ndn_data.specs.Data.{Data}
 use Rattle.repo_plan.specs.declared.part.Part.{Part}
 use Rattle.sorted_lists.specs.SortedList.{keys, contains, value_of}
 use Rattle.repo_plan.specs.declared.shape.Shape.{Shape}
-use Rattle.repo_plan.specs.Parts.{Pair, part_cmp, pair_of, part_of, parts_after, parent, parent_number}
-use Rattle.repo_plan.specs.Plan.{knows, holds, hides, is_asked, can_be_asked, shape_of}
+use Rattle.repo_plan.specs.Parts.{Pair, part_cmp, pair_of, part_of, last_part, parent, parent_number}
+use Rattle.repo_plan.specs.Plan.{knows, holds, hides, may_be_asked_for, is_listed_part, shape_of}
 use Rattle.repo_plan.specs.Sound.{PlanIsSound, CanBeHeld}
 use Rattle.repo_plan.proofs.Orders.{exact_parts}
 use Rattle.sorted_lists.proofs.Sets.{eq_same}
-use Rattle.repo_plan.proofs.Changes.{sound_opening}
+use Rattle.repo_plan.proofs.Changes.{sound_initial}
 use Rattle.repo_object.specs.declared.part_refusal.PartRefusal.{PartRefusal}
 use Rattle.repo_object.specs.Objects.{Post, IsPost, Publisher, IsPublisher, shape_in}
 use Rattle.repo_object.specs.Publication.{Listed, RecordSays, published_record, packets}
@@ -40,13 +40,13 @@ use Rattle.repo_holdings.specs.Listed.{stored_at, stated_at, listing_in, listing
 use Rattle.repo_object.specs.Publication.{shape_stated}
 use Rattle.repo_holdings.specs.StoredParents.{index_at, digests_at, place_listed, lists_at, ListsAsMany}
 use Rattle.repo_member.specs.Groups.{GroupKeys, IsGroup, node_at, publisher_at}
-use Rattle.repo_member.specs.MemberState.{MemberState, IsMemberState, ArePosts, IsOfGroup, member_plan, member_opening}
+use Rattle.repo_member.specs.MemberState.{MemberState, IsMemberState, ArePosts, IsOfGroup, member_plan, initial_member}
 use Rattle.repo_member.specs.MemberState.{logged}
 use Rattle.repo_holdings.specs.Wanting.{nothing_listed, want_after}
 use Rattle.repo_member.specs.MemberState.{want_of, member_learns}
 use Rattle.repo_holdings.specs.Gaining.{AreTied, shape_in_summary}
 use Rattle.repo_holdings.proofs.CatalogueLemmas.{fun_ext}
-use Rattle.repo_holdings.proofs.GainingLemmas.{reported_shape_is, shape_stored}
+use Rattle.repo_holdings.proofs.GainingLemmas.{stated_shape_is, shape_stored}
 use Rattle.repo_member.specs.Blocks.{AreWithinLimits}
 use Rattle.repo_holdings.proofs.GainingLemmas.{contains-value, put_elsewhere, value_of-put}
 use Rattle.repo_holdings.proofs.AskedLemmas.{asked_segment}
@@ -76,7 +76,7 @@ pub record IsReached (g : GroupKeys) (a : MemberState) : Type 0 where
 -- ---- the beginning
 
 pub reached_opening : (g : GroupKeys) (number time draw : ℕ) → IsGroup g → number < length g.members.names
-    → IsReached g (member_opening (length g.members.names) number time draw)
+    → IsReached g (initial_member (length g.members.names) number time draw)
 reached_opening g number time draw group inside =
     let n = length g.members.names in
     let zero_number : ℕ = 0 in
@@ -91,7 +91,7 @@ reached_opening g number time draw group inside =
         hidden = λ pair h. absurd (true≢false (sym h));
       };
       of = sym wide;
-      sound = sound_opening n;
+      sound = sound_initial n;
       few = omega arith;
       tied = record {
         in_order = tt;
@@ -114,7 +114,7 @@ reached_opening g number time draw group inside =
 
 -- claims, attempts and the machine
 pub reached_with : (g : GroupKeys) (a : MemberState) (claims : List (Option Part)) (attempts : List (Part × ℕ))
-    (machine : Keeper)
+    (machine : SyncState)
     → machine.members ≡ a.machine.members
     → PlanIsSound (member_plan (record a { claims = claims; attempts = attempts })) → IsReached g a
     → IsReached g (record a { claims = claims; attempts = attempts; machine = machine })
@@ -176,12 +176,12 @@ few_members : (g : GroupKeys) (a : MemberState) → IsReached g a → length a.k
 few_members g a r = omega (arith, r.group.members.roster.few, r.of)
 
 -- what is reported
-pub reached_learns : (g : GroupKeys) (a : MemberState) (reported : List ℕ) → length reported ≡ length g.members.names
-    → slice_index reported a.number ≤ length a.log → IsReached g a → IsReached g (member_learns reported a)
-reached_learns g a reported wide not_ahead r =
-    let long : length (join a.known reported) ≡ length a.known = length-join a.known reported (sym r.of ∙ sym wide) in
-    let at = join-at a.known reported in
-    let more : (q : ℕ) → slice_index a.known q ≤ slice_index (join a.known reported) q = λ q. omega (arith, at q) in
+pub reached_learns : (g : GroupKeys) (a : MemberState) (received : List ℕ) → length received ≡ length g.members.names
+    → slice_index received a.number ≤ length a.log → IsReached g a → IsReached g (member_learns received a)
+reached_learns g a received wide not_ahead r =
+    let long : length (join a.known received) ≡ length a.known = length-join a.known received (sym r.of ∙ sym wide) in
+    let at = join-at a.known received in
+    let more : (q : ℕ) → slice_index a.known q ≤ slice_index (join a.known received) q = λ q. omega (arith, at q) in
     record {
       group = r.group;
       member_state = record {
@@ -190,11 +190,11 @@ reached_learns g a reported wide not_ahead r =
         width = r.member_state.width ∙ sym long;
         in_order = r.member_state.in_order;
         hidden =
-            λ pair h. knows_more (member_plan a) (member_plan (member_learns reported a)) pair more
+            λ pair h. knows_more (member_plan a) (member_plan (member_learns received a)) pair more
             (r.member_state.hidden pair h);
       };
       of = r.of ∙ sym long;
-      sound = sound_known (member_plan a) (join a.known reported) (omega (arith, long, few_members g a r)) more r.sound;
+      sound = sound_known (member_plan a) (join a.known received) (omega (arith, long, few_members g a r)) more r.sound;
       few = r.few;
       tied = record {
         in_order = r.tied.in_order;
@@ -213,13 +213,13 @@ reached_learns g a reported wide not_ahead r =
 
 -- an own part that is asked for and not hidden was published
 module _ (g : GroupKeys) (a : MemberState) (t : Part) (r : IsReached g a) (own : t.publisher ≡ a.number)
-    (asked : is_asked (member_plan a) t ≡ true) (shown : hides (member_plan a) (pair_of t) ≡ false) where
+    (asked : may_be_asked_for (member_plan a) t ≡ true) (shown : hides (member_plan a) (pair_of t) ≡ false) where
   known : (1 ≤ t.seq) × (t.seq ≤ length a.log)
   known =
       let both =
       and_parts (nat_le 1 t.seq) (nat_le t.seq (slice_index a.known t.publisher))
       (and_parts (knows (member_plan a) (pair_of t))
-      (can_be_asked (keys a.store) (shape_of (member_plan a) (pair_of t)) t) asked).0 in
+      (is_listed_part (keys a.store) (shape_of (member_plan a) (pair_of t)) t) asked).0 in
       let high = leb-true t.seq (slice_index a.known t.publisher) both.1 in
       (leb-true 1 t.seq both.0, omega (arith, high, ap (slice_index a.known) own, r.member_state.own))
 
@@ -257,18 +257,18 @@ module _ (g : GroupKeys) (a : MemberState) (t : Part) (r : IsReached g a) (own :
   within : t.part < length (packets by t.seq post)
   within =
       let long = packets-length by t.seq post in
-      let can : can_be_asked (keys a.store) (Some (shape_in post)) t ≡ true =
-      ap (λ (o : Option Shape). can_be_asked (keys a.store) o t) (sym shaped)
+      let can : is_listed_part (keys a.store) (Some (shape_in post)) t ≡ true =
+      ap (λ (o : Option Shape). is_listed_part (keys a.store) o t) (sym shaped)
       ∙ (and_parts (knows (member_plan a) (pair_of t))
-      (can_be_asked (keys a.store) (shape_of (member_plan a) (pair_of t)) t) asked).1 in
+      (is_listed_part (keys a.store) (shape_of (member_plan a) (pair_of t)) t) asked).1 in
       elim (or_cases (t.part == 0)
-      (nat_le t.part (parts_after (shape_in post))
+      (nat_le t.part (last_part (shape_in post))
       && contains part_cmp (keys a.store) (parent (shape_in post) t)) can) [
         | inl first ↦ omega (arith, eqb-true t.part 0 first, long)
         | inr after ↦
             let low =
-            leb-true t.part (parts_after (shape_in post))
-            (and_parts (nat_le t.part (parts_after (shape_in post)))
+            leb-true t.part (last_part (shape_in post))
+            (and_parts (nat_le t.part (last_part (shape_in post)))
             (contains part_cmp (keys a.store) (parent (shape_in post) t)) after).0 in
             omega (arith, low, long)
       ]
@@ -342,7 +342,7 @@ want_same g old new t h =
 
 -- so the want of a part that could be asked for stays the same
 pub want_stays : (g : GroupKeys) (a : MemberState) (new : List Packet) (t : Part) → AreTied (member_plan a) a.store
-    → StaysStored a.store new → is_asked (member_plan a) t ≡ true → want_of g new t ≡ want_of g a.store t
+    → StaysStored a.store new → may_be_asked_for (member_plan a) t ≡ true → want_of g new t ≡ want_of g a.store t
 want_stays g a new t tied stays asked = go (t.part == 0) refl where
   after : List Packet → Listed → WantedPart
   after stored l = want_after (node_at g t.publisher) g.name stored t l
@@ -392,8 +392,8 @@ module _ (g : GroupKeys) (stored : List Packet) (t : Part) (octets : List ℕ)
   content = ap content_within all.read
 
   -- a packet that passes for a record's want reports its publication
-  pub passed_reported : is_some (shape_in_summary t octets) ≡ (t.part == 0)
-  passed_reported = ap is_some (reported_shape_is t octets) ∙ go (t.part == 0) refl where
+  pub passed_received : is_some (shape_in_summary t octets) ≡ (t.part == 0)
+  passed_received = ap is_some (stated_shape_is t octets) ∙ go (t.part == 0) refl where
     some : (o : Option RecordSays) → IsTrue (may_say want.part.seq o) → is_some (option_map shape_stated o) ≡ true
     some None h = absurd (true≢false (sym h))
     some (Some says) h = refl
@@ -441,11 +441,11 @@ module _ (g : GroupKeys) (a : MemberState) (t : Part) (octets : List ℕ) (r : I
     };
     of = r.of;
     sound =
-        sound_gained a t octets r.tied fresh can.asked (passed_reported g a.store t octets passed)
+        sound_gained a t octets r.tied fresh can.asked (passed_received g a.store t octets passed)
         (passed_lists g a.store t octets passed) can r.sound;
     few = r.few;
     tied =
-        tied_gained a t octets r.tied fresh can.asked (passed_reported g a.store t octets passed)
+        tied_gained a t octets r.tied fresh can.asked (passed_received g a.store t octets passed)
         (passed_lists g a.store t octets passed);
     posts = r.posts;
     own =
@@ -460,7 +460,7 @@ module _ (g : GroupKeys) (a : MemberState) (t : Part) (octets : List ℕ) (r : I
     other q own true p = absurd (not_own (sym (ap (λ (u : Part). u.publisher) (eq_same exact_parts q t p)) ∙ own))
     other q own false p = refl
 
-    now : (q : Part) (found : List ℕ) → is_asked (member_plan a) q ≡ true → PassesNow g a.store q found
+    now : (q : Part) (found : List ℕ) → may_be_asked_for (member_plan a) q ≡ true → PassesNow g a.store q found
         → PassesNow g (with_packet t octets a.store) q found
     now q found asked before =
         subst (λ (want : WantedPart). IsOk (ring_verdict want g.members.ring found))

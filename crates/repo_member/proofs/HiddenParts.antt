@@ -8,7 +8,7 @@ use Rattle.ndn_name.specs.Names.{Component}
 use Rattle.repo_plan.specs.declared.part.Part.{Part}
 use Rattle.sorted_lists.specs.SortedList.{Rises, keys, value_of, insert_key}
 use Rattle.repo_plan.specs.Parts.{Pair, pair_cmp, part_cmp, pair_of}
-use Rattle.repo_plan.specs.Plan.{PlanState, knows, hides, is_in, claims_part_in, hides_too}
+use Rattle.repo_plan.specs.Plan.{PlanState, knows, hides, is_in, claims_part_in, after_hide}
 use Rattle.repo_plan.specs.Sound.{PlanIsSound}
 use Rattle.repo_plan.proofs.Orders.{exact_pairs}
 use Rattle.sorted_lists.proofs.Sets.{In, eq_same, eq_turned, contains-insert_key, from_map}
@@ -56,9 +56,9 @@ abbrev pub hidden_one : Pair → MemberState → MemberState
 hidden_one pair a = record a { store = packets_outside pair a.store; hidden = insert_key pair_cmp pair a.hidden }
 
 pub plan_hidden : (pair : Pair) (a : MemberState) → Rises part_cmp (keys a.store)
-    → hides_too pair (member_plan a) ≡ member_plan (hidden_one pair a)
+    → after_hide pair (member_plan a) ≡ member_plan (hidden_one pair a)
 plan_hidden pair a order =
-    same_holdings (hides_too pair (member_plan a)) (member_plan (hidden_one pair a)) refl
+    same_holdings (after_hide pair (member_plan a)) (member_plan (hidden_one pair a)) refl
     (sym (keys_outside pair a.store)) (shapes_outside pair a.store order) refl refl refl refl
 
 shown_before : (pair : Pair) (a : MemberState) (q : Pair) → hides (member_plan (hidden_one pair a)) q ≡ false

@@ -14,14 +14,14 @@ use Rattle.sorted_lists.specs.SortedList.{contains, keys, with_value}
 use Rattle.sorted_lists.proofs.Sets.{In, eq_same, eq_itself, contains-insert_key, keys-with_value}
 use Rattle.repo_holdings.specs.Records.{Packet}
 use Rattle.repo_holdings.specs.HoldingsState.{HoldingsState, held_plan}
-use Rattle.repo_holdings.specs.Taking.{Fetched, with_fetched, with_all_fetched, takes_too}
+use Rattle.repo_holdings.specs.Taking.{Fetched, with_fetched, with_all_fetched, after_outcome}
 use Rattle.group_model.specs.Publications.{Logs, shape_at}
 use Rattle.group_model.specs.Sound.{IsHeldSoundly}
 use Rattle.group_model.proofs.Lists.{at_in}
 use Rattle.group_model.proofs.Parents.{record_lists_itself}
 use Rattle.repo_member.specs.Groups.{GroupKeys}
 use Rattle.repo_member.specs.MemberState.{MemberState, member_takes}
-use Rattle.repo_member.specs.InGroup.{AreLogs, StoresConsistently, CameConsistently, that_came}
+use Rattle.repo_member.specs.InGroup.{AreLogs, StoresConsistently, IsConsistentFetch, parts_fetched}
 use Rattle.repo_member.specs.ConsistentHolders.{IsConsistentHolder, IsHiddenFrom, member_with, ArrivesConsistently}
 use Rattle.repo_member.specs.ConsistentHolders.{FetchedAreStored}
 use Rattle.repo_member.specs.ConsistentHolders.{HoldersTakeConsistently}
@@ -57,7 +57,7 @@ pub fetched_are_stored : FetchedAreStored
 fetched_are_stored [] stored u = refl
 fetched_are_stored (x ∷ xs) stored u =
     fetched_are_stored xs (with_fetched x.part x.packet stored) u
-    ∙ ap (λ (b : Bool). contains part_cmp (that_came xs) u || b) (one_is x.part x.packet stored u)
+    ∙ ap (λ (b : Bool). contains part_cmp (parts_fetched xs) u || b) (one_is x.part x.packet stored u)
     ∙ go (is_some x.packet) where
       shuffled : (a b c : Bool) → (a || (b || c)) ≡ ((b || a) || c)
       shuffled true true c = refl
@@ -66,18 +66,18 @@ fetched_are_stored (x ∷ xs) stored u =
       shuffled false false c = refl
 
       go : (b : Bool)
-          → (contains part_cmp (that_came xs) u || ((b && eq_by_cmp part_cmp u x.part) || is_stored stored u))
+          → (contains part_cmp (parts_fetched xs) u || ((b && eq_by_cmp part_cmp u x.part) || is_stored stored u))
           ≡ (contains part_cmp
           (map (λ (y : Fetched). y.part)
           (cond b (x ∷ filter (λ y. is_some y.packet) xs) (filter (λ y. is_some y.packet) xs))) u
           || is_stored stored u)
-      go true = shuffled (contains part_cmp (that_came xs) u) (eq_by_cmp part_cmp u x.part) (is_stored stored u)
+      go true = shuffled (contains part_cmp (parts_fetched xs) u) (eq_by_cmp part_cmp u x.part) (is_stored stored u)
       go false = refl
 
 pub still_there : (xs : List Fetched) (stored : List Packet) (u : Part) → is_stored stored u ≡ true
     → is_stored (with_all_fetched xs stored) u ≡ true
 still_there xs stored u h =
-    fetched_are_stored xs stored u ∙ or_right (contains part_cmp (that_came xs) u) (is_stored stored u) h
+    fetched_are_stored xs stored u ∙ or_right (contains part_cmp (parts_fetched xs) u) (is_stored stored u) h
 
 pub then_there : (xs : List Fetched) (stored : List Packet) (x : Fetched) → In x xs → is_some x.packet ≡ true
     → is_stored (with_all_fetched xs stored) x.part ≡ true
@@ -117,7 +117,7 @@ module _ (g : GroupKeys) (logs : Logs) (xs : List Fetched) (h : HoldingsState) (
     (came : All (λ x. IfSome x.packet (ArrivesConsistently g logs h x.part)) xs)
     (consistent : IsConsistentHolder g logs h) where
   abbrev next : HoldingsState
-  next = takes_too xs h
+  next = after_outcome xs h
 
   -- a part whose packet came is wanted
   wanted_if : (o : Option (List ℕ)) (t : Part) → IfSome o (ArrivesConsistently g logs h t) → is_some o ≡ true
@@ -134,7 +134,7 @@ module _ (g : GroupKeys) (logs : Logs) (xs : List Fetched) (h : HoldingsState) (
       some
 
   came_consistently : (o : Option (List ℕ)) (t : Part) → IfSome o (ArrivesConsistently g logs h t)
-      → CameConsistently g logs t o
+      → IsConsistentFetch g logs t o
   came_consistently None t is = tt
   came_consistently (Some octets) t is = record {
     published = (wanted_published g logs h are consistent t (wanted_if (Some octets) t is refl)).there;
@@ -147,7 +147,8 @@ module _ (g : GroupKeys) (logs : Logs) (xs : List Fetched) (h : HoldingsState) (
       (sym (store_taken xs (member_with h)))
       (takes_consistently g logs xs (member_with h)
       (All-weaker (λ (x : Fetched). IfSome x.packet (ArrivesConsistently g logs h x.part))
-      (λ (x : Fetched). CameConsistently g logs x.part x.packet) (λ x is. came_consistently x.packet x.part is) xs came)
+      (λ (x : Fetched). IsConsistentFetch g logs x.part x.packet)
+      (λ x is. came_consistently x.packet x.part is) xs came)
       (holder_stores_consistently g logs h consistent))
 
   more : (u : Part) → is_stored h.store u ≡ true → is_stored next.store u ≡ true

@@ -27,7 +27,7 @@ use Rattle.repo_holdings.specs.Taking.{Fetched}
 use Rattle.repo_holdings.specs.NewPublications.{as_parts, with_packets}
 use Rattle.repo_holdings.specs.Taking.{with_fetched}
 use Rattle.repo_member.proofs.PostLemmas.{are_posts_more}
-use Rattle.repo_member.specs.InGroup.{StoresConsistently, IsItsPacket, CameConsistently, published_packet, GrowInto}
+use Rattle.repo_member.specs.InGroup.{StoresConsistently, IsItsPacket, IsConsistentFetch, published_packet, GrowInto}
 use Rattle.repo_member.specs.InGroup.{BeginsConsistently}
 use Rattle.repo_member.specs.InGroup.{GrowsConsistently, PublishesConsistently, AcceptsConsistently, TakesConsistently}
 use Rattle.repo_member.specs.InGroup.{StaysConsistent, LogsBegin}
@@ -89,7 +89,7 @@ accepts_consistently g logs f t octets a its s =
     (one_more g logs t octets a its s)
 
 fetched_consistently : (g : GroupKeys) (logs : Logs) (t : Part) (o : Option (List ℕ)) (a : MemberState)
-    → CameConsistently g logs t o
+    → IsConsistentFetch g logs t o
     → StoresConsistently g logs a → StoresConsistently g logs (with_store a (with_fetched t o a.store))
 fetched_consistently g logs t None a came s = stays_consistent g logs a (with_store a a.store) refl s
 fetched_consistently g logs t (Some octets) a came s = one_more g logs t octets a came s
@@ -99,7 +99,7 @@ takes_consistently g logs [] a came s = s
 takes_consistently g logs (x ∷ xs) a came s =
     let next : MemberState =
     record a { store = with_fetched x.part x.packet a.store; attempts = with_tries x.part x.attempts a.attempts } in
-    let P : Fetched → Type 0 = λ y. CameConsistently g logs y.part y.packet in
+    let P : Fetched → Type 0 = λ y. IsConsistentFetch g logs y.part y.packet in
     takes_consistently g logs xs next (All-tail P x xs came)
     (stays_consistent g logs (with_store a (with_fetched x.part x.packet a.store)) next refl
     (fetched_consistently g logs x.part x.packet a (All-head P x xs came) s))

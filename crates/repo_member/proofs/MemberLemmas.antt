@@ -6,13 +6,13 @@ use Rattle.std.specs.Prelude.{slice_index, nat_le, Result, Ok, Err, IsOk, IfOk, 
 use Rattle.std.proofs.lemmas.Bool.{and_parts, and_from, leb-true, le-leb, eqb-false, false_from_ne_true}
 use Rattle.repo_plan.specs.declared.part.Part.{Part}
 use Rattle.repo_plan.specs.Parts.{Pair, pair_of}
-use Rattle.repo_plan.specs.Plan.{is_asked, knows, claim_of}
+use Rattle.repo_plan.specs.Plan.{may_be_asked_for, knows, claim_of}
 use Rattle.repo_plan.specs.Sound.{CanBeHeld}
 use Rattle.repo_plan.specs.declared.plan.claims.FetcherIdle.{FetcherIdle}
 use Rattle.svs_vector.specs.Vectors.{join, covers}
 use Rattle.svs_vector.proofs.JoinLemmas.{length-join, join-at}
 use Rattle.svs_sync.specs.Suppression.{suppression}
-use Rattle.svs_sync.specs.KeptVector.{Keeper, steady_kept, hears_kept}
+use Rattle.svs_sync.specs.SyncStates.{SyncState, steady_joined, hears_joined}
 use Rattle.repo_plan.specs.Plan.{PlanState}
 use Rattle.repo_member.specs.declared.member.Member.TheInside.{Inside}
 use Rattle.repo_holdings.specs.Listed.{listing_at, listed_shape}
@@ -49,21 +49,21 @@ reading f m a is view = ap f (plan_is m is) ∙ ap (λ (x : MemberState). f (mem
 
 -- ---- what is learnt
 
-hears_members : (now : ℕ) (reported known : List ℕ) (draw : ℕ) (k : Keeper) (heard : Option (List ℕ))
-    → (hears_kept now reported known draw k heard).members ≡ k.members
-hears_members now reported known draw k (Some vector) = refl
-hears_members now reported known draw k None = go (covers reported known) where
+hears_members : (now : ℕ) (received known : List ℕ) (draw : ℕ) (k : SyncState) (heard : Option (List ℕ))
+    → (hears_joined now received known draw k heard).members ≡ k.members
+hears_members now received known draw k (Some vector) = refl
+hears_members now received known draw k None = go (covers received known) where
   go : (b : Bool)
-      → (cond b (steady_kept now draw k)
-      (record k { heard = Some reported; deadline = now + suppression draw; draws = k.draws + 1 })).members
+      → (cond b (steady_joined now draw k)
+      (record k { heard = Some received; deadline = now + suppression draw; draws = k.draws + 1 })).members
       ≡ k.members
   go true = refl
   go false = refl
 
-pub still_wide : (now : ℕ) (reported known : List ℕ) (draw : ℕ) (k new : Keeper)
-    → new ≡ hears_kept now reported known draw k k.heard → new.members ≡ k.members
-still_wide now reported known draw k new is =
-    ap (λ (x : Keeper). x.members) is ∙ hears_members now reported known draw k k.heard
+pub still_wide : (now : ℕ) (received known : List ℕ) (draw : ℕ) (k new : SyncState)
+    → new ≡ hears_joined now received known draw k k.heard → new.members ≡ k.members
+still_wide now received known draw k new is =
+    ap (λ (x : SyncState). x.members) is ∙ hears_members now received known draw k k.heard
 
 -- numbers that grow are known still
 pub knows_more : (old new : PlanState) (pair : Pair) → ((p : ℕ) → slice_index old.known p ≤ slice_index new.known p)
@@ -76,19 +76,19 @@ knows_more old new pair more h =
     (le-leb pair.1 (slice_index new.known pair.0) (omega (arith, high, grown)))
 
 -- a member that learns a vector, which reports no more publications of it than it made
-pub learns_is : (m : Inside) (reported vector : List ℕ) (held : HoldingsState) (machine : Keeper) → IsMember m
-    → length reported ≡ length m.vector → slice_index reported m.number ≤ length (posts_of m.log.items)
-    → vector ≡ join m.vector reported → held ≡ record m.held { known = join m.vector reported }
+pub learns_is : (m : Inside) (received vector : List ℕ) (held : HoldingsState) (machine : SyncState) → IsMember m
+    → length received ≡ length m.vector → slice_index received m.number ≤ length (posts_of m.log.items)
+    → vector ≡ join m.vector received → held ≡ record m.held { known = join m.vector received }
     → machine.members ≡ m.machine.members
     → IsMember (record m { vector = vector; held = held; machine = machine })
-learns_is m reported vector held machine is width few joined learnt wide =
-    let long = length-join m.vector reported (sym width) in
-    let at = join-at m.vector reported in
+learns_is m received vector held machine is width few joined learnt wide =
+    let long = length-join m.vector received (sym width) in
+    let at = join-at m.vector received in
     let own = is.member_state.own in
     let next : Inside =
     record m {
-      vector = join m.vector reported;
-      held = record m.held { known = join m.vector reported };
+      vector = join m.vector received;
+      held = record m.held { known = join m.vector received };
       machine =
           machine;
     } in
@@ -215,7 +215,7 @@ module _ (g : GroupKeys) (publishers : List (List Component)) (group : List Comp
 -- the key of a publisher that is asked for is in the ring
 pub publisher_in_ring : (g : GroupKeys) (m : Inside) (a : MemberState) (t : Part) → IsMember m → member_state m ≡ a
     → IsOfGroup g a
-    → HaveKeys g.members → is_asked (member_plan a) t ≡ true → t.publisher < length g.members.ring
+    → HaveKeys g.members → may_be_asked_for (member_plan a) t ≡ true → t.publisher < length g.members.ring
 publisher_in_ring g m a t is view of keys asked =
     let known = asked_member (member_plan a) t asked in
     let ring = ring_length g.members keys in

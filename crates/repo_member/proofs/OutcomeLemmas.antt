@@ -16,7 +16,7 @@ use Rattle.ndn_data.specs.Data.{Data, data_of}
 use Rattle.repo_plan.specs.declared.part.Part.{Part}
 use Rattle.sorted_lists.specs.SortedList.{Rises}
 use Rattle.repo_plan.specs.Parts.{part_cmp, pair_of}
-use Rattle.repo_plan.specs.Plan.{PlanState, holds, hides, is_asked, is_wanted, is_claimed, is_unclaimed}
+use Rattle.repo_plan.specs.Plan.{PlanState, holds, hides, may_be_asked_for, is_wanted, is_claimed, is_unclaimed}
 use Rattle.repo_plan.specs.Plan.{is_after}
 use Rattle.repo_plan.specs.Plan.{unclaimed, known_parts, attempts_of}
 use Rattle.repo_plan.proofs.Changes.{wanted_parts}
@@ -35,7 +35,7 @@ use Rattle.repo_member.specs.Groups.{GroupKeys, HaveKeys}
 use Rattle.repo_holdings.specs.Records.{Packet}
 use Rattle.group_model.specs.Member.{with_tries}
 use Rattle.repo_member.specs.MemberState.{MemberState, member_holdings, member_plan, want_of, member_takes}
-use Rattle.repo_holdings.specs.Taking.{Fetched, with_fetched, with_all_fetched, with_what_came}
+use Rattle.repo_holdings.specs.Taking.{Fetched, with_fetched, with_all_fetched, with_fetched_for}
 use Rattle.repo_holdings.specs.StoredParents.{lists_at, ListsAsMany}
 use Rattle.repo_holdings.specs.Gaining.{IsArrival}
 use Rattle.repo_holdings.specs.declared.record_summary.RecordSummary.{RecordSummary}
@@ -53,7 +53,7 @@ use Rattle.repo_holdings.specs.Taking.{AreTakable, came, arrival_octets}
 use Rattle.repo_member.specs.Outcomes.{octets_in}
 use Rattle.repo_holdings.specs.HoldingsState.{HoldingsState, held_plan}
 use Rattle.repo_holdings.specs.Wanting.{want_at, job_at}
-use Rattle.repo_holdings.specs.Taking.{takes_too}
+use Rattle.repo_holdings.specs.Taking.{after_outcome}
 use Rattle.repo_member.proofs.GroupLemmas.{ring_length}
 use Rattle.repo_holdings.proofs.AskedLemmas.{asked_member}
 use Rattle.repo_member.proofs.MemberLemmas.{plan_is, want_at_part, want_part, want_lists}
@@ -117,16 +117,16 @@ comes_so c t octets (Ok a) part same passed comes = λ packets lists.
 
 -- what was checked for a want of the member comes as its part
 pub arrives : (g : GroupKeys) (a : MemberState) (t : Part) (c : CheckedPart) (octets : List ℕ)
-    (reported : Option RecordSummary)
+    (received : Option RecordSummary)
     → c.want ≡ want_of g a.store t
     → ((packets : List Packet) → c.want.lists ≡ lists_at packets c.want.part
-    → IsArrival packets c.want.part octets reported)
-    → IsArrival a.store t octets reported
-arrives g a t c octets reported same comes =
+    → IsArrival packets c.want.part octets received)
+    → IsArrival a.store t octets received
+arrives g a t c octets received same comes =
     let part : c.want.part ≡ t = ap (λ (w : WantedPart). w.part) same ∙ want_part g a.store t in
     let lists : c.want.lists ≡ lists_at a.store c.want.part =
     ap (λ (w : WantedPart). w.lists) same ∙ want_lists g a.store t ∙ ap (lists_at a.store) (sym part) in
-    subst (λ (u : Part). IsArrival a.store u octets reported) part (comes a.store lists)
+    subst (λ (u : Part). IsArrival a.store u octets received) part (comes a.store lists)
 
 -- and lists as many digests as the part has to
 pub lists_for : (g : GroupKeys) (a : MemberState) (t : Part) (c : CheckedPart) → IsChecked c → c.want
@@ -170,12 +170,13 @@ module _ (g : GroupKeys) (a : MemberState) (job : Job) (part : Option CheckedPar
           ≡ record { part = job.want.part; packet = option_map (λ (c : CheckedPart). c.octets) part; attempts = n }
       is = λ i. record { part = same i; packet = packet i; attempts = tried i }
 
-  pub fetched_asked : (t : Part) → IsFetched g a job part n → t ≡ job.want.part → is_asked (member_plan a) t ≡ true
+  pub fetched_asked : (t : Part) → IsFetched g a job part n → t ≡ job.want.part
+      → may_be_asked_for (member_plan a) t ≡ true
   fetched_asked t is same =
       let free =
       and_parts (is_wanted (member_plan a) job.want.part) (not (is_claimed (member_plan a) job.want.part))
       is.unclaimed in
-      ap (is_asked (member_plan a)) same ∙ (wanted_parts (member_plan a) job.want.part free.0).asked
+      ap (may_be_asked_for (member_plan a)) same ∙ (wanted_parts (member_plan a) job.want.part free.0).asked
 
   pub can_be_taken : (x : Tried) → IsFetched g a job part n → x.part ≡ job.want.part → x.attempts ≡ n
       → IfSome x.arrival (λ y. IsArrival a.store x.part y.packet y.summary)
@@ -246,7 +247,7 @@ module _ (g : GroupKeys) (a : MemberState) where
   -- what is stored with it goes by the parts and their packets alone
   pub stored_alike : (jobs : List Job) (parts : List (Option CheckedPart)) (ns : List ℕ) (stored : List Packet)
       → AreFetched g a jobs parts ns
-      → with_what_came jobs parts stored ≡ with_all_fetched (outcome_of jobs parts ns) stored
+      → with_fetched_for jobs parts stored ≡ with_all_fetched (outcome_of jobs parts ns) stored
   stored_alike [] [] [] stored are = refl
   stored_alike [] [] (n ∷ ns) stored are = absurd are
   stored_alike [] (part ∷ parts) ns stored are = absurd are
@@ -308,7 +309,7 @@ module _ (m : Inside) (a : MemberState) (view : member_state m ≡ a) (mid : Hol
   pub stored_still : mid.store ≡ a.store
   stored_still = ap (λ (h : HoldingsState). h.store) room ∙ ap (λ (x : MemberState). x.store) view
 
-  pub taken_is : (after : HoldingsState) (xs : List Fetched) → after ≡ takes_too xs mid
+  pub taken_is : (after : HoldingsState) (xs : List Fetched) → after ≡ after_outcome xs mid
       → record (member_state m) {
         store = after.store;
         hidden = after.hidden;
@@ -322,7 +323,7 @@ module _ (m : Inside) (a : MemberState) (view : member_state m ≡ a) (mid : Hol
         hidden = h.hidden;
         claims = h.claims;
         attempts = h.attempts;
-      }) (taken ∙ ap (takes_too xs) room)
+      }) (taken ∙ ap (after_outcome xs) room)
       ∙ sym (members_take_all xs (member_state m)) ∙ ap (member_takes xs) view
 
 -- ---- what is planned can be taken, whatever came of it

@@ -12,13 +12,14 @@ use Rattle.std.proofs.lemmas.Option.{unwrap_or-slice_get}
 use Rattle.std.specs.Ordering.{eq_by_cmp}
 use Rattle.repo_plan.specs.declared.part.Part.{Part}
 use Rattle.repo_plan.specs.Parts.{Pair, part_cmp, pair_of, part_of}
-use Rattle.repo_plan.specs.Plan.{PlanState, knows, holds, hides, is_asked, is_claimed, is_claim_of, can_be_asked}
+use Rattle.repo_plan.specs.Plan.{PlanState, knows, holds, hides, may_be_asked_for, is_claimed, is_claim_of}
+use Rattle.repo_plan.specs.Plan.{is_listed_part}
 use Rattle.repo_plan.specs.Plan.{shape_of, raises}
 use Rattle.repo_plan.specs.Sound.{PlanIsSound}
 use Rattle.repo_plan.proofs.Orders.{exact_parts}
 use Rattle.sorted_lists.proofs.Sets.{eq_same}
 use Rattle.repo_plan.proofs.Known.{wanted_is_asked}
-use Rattle.repo_plan.specs.Parts.{index_packets, parts_after}
+use Rattle.repo_plan.specs.Parts.{index_packets, last_part}
 use Rattle.repo_object.specs.Objects.{Post, IsPost, Publisher, IsPublisher, shape_in}
 use Rattle.repo_object.specs.Objects.Post.{Offers, Withdraws}
 use Rattle.repo_object.specs.Publication.{Listed, packets, packet_at, packets_after, record_packet, published_record}
@@ -100,10 +101,10 @@ module _ (publisher : Publisher) (seq : ℕ) (is_publisher : IsPublisher publish
             ∙ ap is_some (index_again publisher is_publisher object is seq i octets low (omega (arith, below))
             (ap (packet_at publisher seq (Offers object)) next ∙ there))
 
-  pub packets_are : (post : Post) → IsPost seq post → (reported : RecordSummary)
-      → reported ≡ summary_of (published_record publisher seq post)
-      → (made : List (List ℕ)) → made ≡ packets publisher seq post → ArePackets reported made
-  packets_are post is reported says made same = subst (ArePackets reported) (sym same) (
+  pub packets_are : (post : Post) → IsPost seq post → (received : RecordSummary)
+      → received ≡ summary_of (published_record publisher seq post)
+      → (made : List (List ℕ)) → made ≡ packets publisher seq post → ArePackets received made
+  packets_are post is received says made same = subst (ArePackets received) (sym same) (
     stated,
     (
       many,
@@ -119,17 +120,17 @@ module _ (publisher : Publisher) (seq : ℕ) (is_publisher : IsPublisher publish
     record_is = record_stated publisher is_publisher seq post is low
 
     stated : option_map summary_of (stated_in (record_packet publisher seq (published_record publisher seq post)))
-        ≡ Some reported
+        ≡ Some received
     stated = ap (option_map summary_of) record_is ∙ ap (λ (t : RecordSummary). Some t) (sym says)
 
     shape : (post : Post) → summary_shape (summary_of (published_record publisher seq post)) ≡ shape_in post
     shape (Offers object) = refl
     shape (Withdraws withdrawn) = refl
 
-    many : length (packets_after publisher seq post) ≡ parts_after (summary_shape reported)
+    many : length (packets_after publisher seq post) ≡ last_part (summary_shape received)
     many =
         omega (arith, packets-length publisher seq post)
-        ∙ ap parts_after (sym (shape post) ∙ ap summary_shape (sym says))
+        ∙ ap last_part (sym (shape post) ∙ ap summary_shape (sym says))
 
 -- ---- what is logged
 
@@ -162,9 +163,9 @@ known_up_to p pair h =
     leb-true pair.1 (slice_index p.known pair.0)
     (and_parts (nat_le 1 pair.1) (nat_le pair.1 (slice_index p.known pair.0)) h).1
 
-asked_known_up_to : (p : PlanState) (t : Part) → is_asked p t ≡ true → t.seq ≤ slice_index p.known t.publisher
+asked_known_up_to : (p : PlanState) (t : Part) → may_be_asked_for p t ≡ true → t.seq ≤ slice_index p.known t.publisher
 asked_known_up_to p t h =
-    known_up_to p (pair_of t) (and_parts (knows p (pair_of t)) (can_be_asked p.held (shape_of p (pair_of t)) t) h).0
+    known_up_to p (pair_of t) (and_parts (knows p (pair_of t)) (is_listed_part p.held (shape_of p (pair_of t)) t) h).0
 
 -- nothing is held, hidden or claimed of the publication after the last one that is known
 pub next_to_last : (p : PlanState) (number last : ℕ) → PlanIsSound p → number < length p.known

@@ -10,7 +10,7 @@ use Rattle.ndn_name.specs.Names.{Component, encoding}
 use Rattle.ndn_sign.specs.Ring
 use Rattle.ndn_sign.specs.Ring.{pair}
 use Rattle.repo_plan.specs.declared.part.Part.{Part}
-use Rattle.repo_plan.specs.Parts.{pair_of, parts_after, index_packets}
+use Rattle.repo_plan.specs.Parts.{pair_of, last_part, index_packets}
 use Rattle.repo_object.specs.Objects.{Post, IsPost, IsPublisher, offered, shape_in, key_name}
 use Rattle.repo_object.specs.Objects.Post.{Offers, Withdraws}
 use Rattle.repo_object.specs.Publication.{Listed, packets, packet_at, published_listing}
@@ -66,12 +66,12 @@ want_published_part g t post made = go (t.part == 0) (nat_le t.part (shape_in po
 
 -- the packet passes for it, under its publisher's key
 packet_for : (g : GroupKeys) (t : Part) (post : Post) (octets : List ℕ) → IsPublisher (publisher_at g t.publisher)
-    → IsPost t.seq post → t.seq < 2 ^ 16 → t.part ≤ parts_after (shape_in post)
+    → IsPost t.seq post → t.seq < 2 ^ 16 → t.part ≤ last_part (shape_in post)
     → packet_at (publisher_at g t.publisher) t.seq post t.part ≡ Some octets
     → IsOk (part_verdict (want_published g t post (Some octets)) (encoding (key_name (node_at g t.publisher)))
     (member_key g t.publisher) octets)
 packet_for g t post octets publishes_it is low counted its = first (t.part == 0) refl where
-  after : (post : Post) → IsPost t.seq post → t.part ≤ parts_after (shape_in post)
+  after : (post : Post) → IsPost t.seq post → t.part ≤ last_part (shape_in post)
       → packet_at (publisher_at g t.publisher) t.seq post t.part ≡ Some octets → 0 < t.part → (b : Bool)
       → nat_le t.part (shape_in post).index ≡ b
       → IsOk (part_verdict
@@ -112,7 +112,7 @@ module _ (g : GroupKeys) (logs : Logs) (t : Part) (are : AreLogs g logs) (is : I
   pub packet_there : IsSomeAnd (published_packet g logs t) (λ octets. length octets ≤ 8800)
   packet_there =
       let made : List (List ℕ) = packets (publisher_at g t.publisher) t.seq post in
-      let many : length made ≡ parts_after (shape_in post) + 1 =
+      let many : length made ≡ last_part (shape_in post) + 1 =
       packets-length (publisher_at g t.publisher) t.seq post in
       let inside : t.part < length made = omega (arith, many, is.counted) in
       let there = slice_get-get_or made t.part [] inside in

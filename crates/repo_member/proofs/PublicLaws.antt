@@ -24,7 +24,7 @@ pub use Rattle.repo_member.proofs.ConsistentChanges.{obeys_consistent, fires_con
 pub use Rattle.repo_member.proofs.ConsistentChanges.{restarts_consistent, ends_claims_consistent}
 pub use Rattle.repo_member.proofs.ConsistentChanges.{claims_consistent, loses_consistent, accepts_consistent}
 pub use Rattle.repo_member.proofs.ConsistentChanges.{takes_consistent}
-pub use Rattle.repo_member.proofs.ConsistentSyncs.{keys_are_found, syncs_are_reported, syncs_are_taken}
+pub use Rattle.repo_member.proofs.ConsistentSyncs.{keys_are_found, syncs_are_received, syncs_are_taken}
 pub use Rattle.repo_member.proofs.EventLemmas.{publish_is_event, withdraw_is_event, deliver_is_event, hear_is_event}
 pub use Rattle.repo_member.proofs.EventLemmas.{fire_is_event}
 pub use Rattle.repo_member.proofs.EventLemmas.{restart_is_event, claim_is_event, lose_is_event, answer_is_event}

@@ -105,14 +105,14 @@ module _ (g : GroupKeys) (post : Post) (time draw : ℕ) (a : MemberState) (is_p
     | inr other ↦ omega (arith, get_or-set_other a.known a.number q (next_seq a) 0 other)
   ]
 
-  abbrev reported : MemberState
-  reported = record a { known = known }
+  abbrev received : MemberState
+  received = record a { known = known }
 
-  reported_sound : PlanIsSound (member_plan reported)
-  reported_sound = sound_known (member_plan a) known (omega (arith, long, r.group.members.roster.few, r.of)) more
+  received_sound : PlanIsSound (member_plan received)
+  received_sound = sound_known (member_plan a) known (omega (arith, long, r.group.members.roster.few, r.of)) more
       r.sound
 
-  new : IsNew (member_plan reported) pair
+  new : IsNew (member_plan received) pair
   new =
       let greater : max (slice_index a.known a.number) (length a.log + 1)
       ≡ next_seq a = omega (arith, r.member_state.own) in
@@ -120,8 +120,8 @@ module _ (g : GroupKeys) (post : Post) (time draw : ℕ) (a : MemberState) (is_p
       (next_to_last (member_plan a) a.number (length a.log) r.sound r.member_state.member r.member_state.own
       (r.member_state.hidden pair))
 
-  reported_tied : AreTied (member_plan reported) a.store
-  reported_tied = record {
+  received_tied : AreTied (member_plan received) a.store
+  received_tied = record {
     in_order = r.tied.in_order;
     held = refl;
     shapes = refl;
@@ -129,15 +129,15 @@ module _ (g : GroupKeys) (post : Post) (time draw : ℕ) (a : MemberState) (is_p
     indexed = r.tied.indexed;
   }
 
-  all_sound : PlanIsSound (member_plan (record reported { store = after }))
-      × AreTied (member_plan (record reported { store = after })) after
+  all_sound : PlanIsSound (member_plan (record received { store = after }))
+      × AreTied (member_plan (record received { store = after })) after
   all_sound =
       let are =
       packets_are by (next_seq a) (is_publisher g a.number r.group (omega (arith, r.member_state.member, r.of)))
       (omega (arith, room)) post is_post says refl made refl in
-      sound_puts (member_plan reported) pair says (first_listing made) (packets_sized says made are) new 0 made reported
-      (omega (arith, count_packets says made are)) (all_to_come says pair made a.store are) reported_tied
-      (gained_none (member_plan reported) pair (summary_shape says) new) reported_sound
+      sound_puts (member_plan received) pair says (first_listing made) (packets_sized says made are) new 0 made received
+      (omega (arith, count_packets says made are)) (all_to_come says pair made a.store are) received_tied
+      (gained_none (member_plan received) pair (summary_shape says) new) received_sound
 
   -- ---- what is stored
 
@@ -198,7 +198,7 @@ module _ (g : GroupKeys) (post : Post) (time draw : ℕ) (a : MemberState) (is_p
       own = at_own ∙ sym (length_push a.log post);
       width = r.member_state.width ∙ sym long;
       in_order = rises_puts (as_parts pair 0 made) a.store r.member_state.in_order;
-      hidden = λ p h. knows_more (member_plan a) (member_plan reported) p more (r.member_state.hidden p h);
+      hidden = λ p h. knows_more (member_plan a) (member_plan received) p more (r.member_state.hidden p h);
     };
     of = r.of ∙ sym long;
     sound = all_sound.0;

@@ -10,7 +10,7 @@ use Rattle.std.proofs.lemmas.Bool.{eqb-true, ne_eqb, lt-leb}
 use Rattle.std.proofs.lemmas.Option.{slice_get-map}
 use Rattle.sha2.specs.Sha256.{sha256}
 use Rattle.repo_plan.specs.declared.part.Part.{Part}
-use Rattle.repo_plan.specs.Parts.{IsShape, pair_of, part_of, parts_after, parent, parent_number, index_packets}
+use Rattle.repo_plan.specs.Parts.{IsShape, pair_of, part_of, last_part, parent, parent_number, index_packets}
 use Rattle.repo_plan.specs.Parts.{shape_of_segments}
 use Rattle.repo_plan.proofs.Parents.{lists_in_turn}
 use Rattle.repo_object.specs.Objects.{NamedContents, Post, IsObject, IsPost, Publisher}
@@ -51,7 +51,7 @@ module _ (g : GroupKeys) (logs : Logs) (a : MemberState) (are : AreLogs g logs)
     (consistent : StoresConsistently g logs a) (t : Part)
     (there : IsPublished logs (pair_of t)) (object : NamedContents) (is : post_at logs (pair_of t) ≡ Offers object)
     (above : index_packets (length object.contents) < t.part)
-    (counted : t.part ≤ parts_after (shape_of_segments (length object.contents)))
+    (counted : t.part ≤ last_part (shape_of_segments (length object.contents)))
     (held : member_holds (in_group a) (parent (shape_of_segments (length object.contents)) t) ≡ true)
     (octets : List ℕ)
     (its : packet_at (publisher_at g t.publisher) t.seq (Offers object) t.part ≡ Some octets) where

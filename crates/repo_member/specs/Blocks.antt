@@ -61,10 +61,10 @@ CompletesAnObject (Whole p) = IsObject (object_of p)
 CompletesAnObject _ = Unit {0}
 
 -- The answer to a block says what was done with it.
-abbrev pub ReportsBlock : GroupKeys → (old new : MemberState) → BlockState → Blocked → Type 0
-ReportsBlock g old new Unknown blocked.Unknown = Unit {0}
-ReportsBlock g old new Already blocked.Already = Unit {0}
-ReportsBlock g old new (Waiting p) blocked.Waiting = Unit {0}
-ReportsBlock g old new (Whole p) (blocked.Published published) =
+abbrev pub IsBlockAnswer : GroupKeys → (old new : MemberState) → BlockState → Blocked → Type 0
+IsBlockAnswer g old new Unknown blocked.Unknown = Unit {0}
+IsBlockAnswer g old new Already blocked.Already = Unit {0}
+IsBlockAnswer g old new (Waiting p) blocked.Waiting = Unit {0}
+IsBlockAnswer g old new (Whole p) (blocked.Published published) =
     (published.seq ≡ next_seq old) × (published.sync.items ≡ sync_of g old.number new.known)
-ReportsBlock g old new _ _ = ⊥
+IsBlockAnswer g old new _ _ = ⊥

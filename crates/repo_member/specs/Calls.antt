@@ -19,11 +19,11 @@ use Rattle.repo_command.specs.Commands.{CommandIsSpelled}
 use Rattle.group_model.specs.Publications.{has_unwithdrawn}
 use Rattle.repo_holdings.specs.declared.contents.ContentsDigest.{ContentsDigest}
 use Rattle.repo_holdings.specs.Contents.{IsDigestIn}
-use Rattle.repo_holdings.specs.Taking.{with_what_came}
+use Rattle.repo_holdings.specs.Taking.{with_fetched_for}
 use Rattle.repo_member.specs.declared.refusals.HearRefusal.{HearRefusal}
 use Rattle.repo_member.specs.declared.refusals.AcceptRefusal.{AcceptRefusal}
 use Rattle.repo_member.specs.Groups.{GroupKeys, IsGroup}
-use Rattle.repo_member.specs.MemberState.{MemberState, IsMemberState, publication_limit, member_plan, member_opening}
+use Rattle.repo_member.specs.MemberState.{MemberState, IsMemberState, publication_limit, member_plan, initial_member}
 use Rattle.repo_member.specs.MemberState.{member_publishes}
 use Rattle.repo_member.specs.MemberState.{logged, member_learns, member_hears, member_fires, member_claims, want_of}
 use Rattle.repo_member.specs.MemberState.{member_accepts, member_takes, member_ends_claims, member_resets}
@@ -61,12 +61,12 @@ pub data MemberCall : Type 0 where
 
 -- What is reported is learnt, and the machine hears it.
 abbrev pub if_heard : ℕ → ℕ → MemberState → Result (List ℕ) HearRefusal → MemberState
-if_heard time draw a (Ok reported) = member_hears reported time draw a
+if_heard time draw a (Ok received) = member_hears received time draw a
 if_heard time draw a (Err refusal) = a
 
 -- What is reported is learnt.
 abbrev pub if_joined : MemberState → Result (List ℕ) HearRefusal → MemberState
-if_joined a (Ok reported) = member_learns reported a
+if_joined a (Ok received) = member_learns received a
 if_joined a (Err refusal) = a
 
 -- A fetcher that claims nothing claims the first part that is wanted and that nobody claims, if there is one.
@@ -100,9 +100,9 @@ after_call g (Publish object time draw) a = if_numbers g (Offers object) time dr
 after_call g (Withdraw seq time draw) a =
     if has_unwithdrawn a.log seq then if_numbers g (Withdraws seq) time draw a else a
 after_call g (Hear octets time draw) a = if_heard time draw a (hear_verdict g a octets)
-after_call g (HearVector reported time draw) a = if_heard time draw a (vector_verdict a reported)
+after_call g (HearVector received time draw) a = if_heard time draw a (vector_verdict a received)
 after_call g (JoinFrom octets) a = if_joined a (hear_verdict g a octets)
-after_call g (JoinVector reported) a = if_joined a (vector_verdict a reported)
+after_call g (JoinVector received) a = if_joined a (vector_verdict a received)
 after_call g (Fire time draw) a = member_fires time draw a
 after_call g (Claim f) a = if_claimed f a (claim_of (member_plan a) f)
 after_call g (Lose f) a = if_lost f a (claim_of (member_plan a) f)
@@ -127,9 +127,9 @@ after_calls g (call ∷ calls) a = after_calls g calls (after_call g call a)
 
 -- A vector that a member can hear: it has a number for each member, and reports no more publications of this one
 -- than it made.
-pub record CanBeReported (a : MemberState) (reported : List ℕ) : Type 0 where
-  pub width : length reported ≡ length a.known
-  pub own : slice_index reported a.number ≤ length a.log
+pub record CanBeReceived (a : MemberState) (received : List ℕ) : Type 0 where
+  pub width : length received ≡ length a.known
+  pub own : slice_index received a.number ≤ length a.log
 
 -- What was checked for the want of the part that a fetcher claims, if it claims one.
 abbrev pub IsCheckedForClaim : GroupKeys → MemberState → ℕ → CheckedPart → Type 0
@@ -147,9 +147,9 @@ abbrev pub IsAllowedCall : GroupKeys → MemberState → MemberCall → Type 0
 IsAllowedCall g a (Publish object time draw) = IsObject object
 IsAllowedCall g a (Withdraw seq time draw) = Unit {0}
 IsAllowedCall g a (Hear octets time draw) = Unit {0}
-IsAllowedCall g a (HearVector reported time draw) = CanBeReported a reported
+IsAllowedCall g a (HearVector received time draw) = CanBeReceived a received
 IsAllowedCall g a (JoinFrom octets) = Unit {0}
-IsAllowedCall g a (JoinVector reported) = CanBeReported a reported
+IsAllowedCall g a (JoinVector received) = CanBeReceived a received
 IsAllowedCall g a (Fire time draw) = Unit {0}
 IsAllowedCall g a (Claim f) = IsFetcher f
 IsAllowedCall g a (Lose f) = IsFetcher f
@@ -157,7 +157,7 @@ IsAllowedCall g a (Accept f octets) = IsFetcher f
 IsAllowedCall g a (AcceptChecked f checked) = IsFetcher f × IsCheckedForClaim g a f checked
 IsAllowedCall g a (TakeOutcome jobs parts attempts) = IsCheckedOutcome g a jobs parts attempts
 IsAllowedCall g a (TakeDigested jobs parts attempts digests) =
-    IsCheckedOutcome g a jobs parts attempts × All (IsDigestIn (with_what_came jobs parts a.store)) digests
+    IsCheckedOutcome g a jobs parts attempts × All (IsDigestIn (with_fetched_for jobs parts a.store)) digests
 IsAllowedCall g a (Command octets) = IfOk (order_of g a.number octets) (λ order. CommandIsSpelled order.1)
 IsAllowedCall g a (CommandChecked octets verdict) =
     (coded verdict ≡ order_of g a.number octets) × IfOk verdict (λ order. CommandIsSpelled order.1)
@@ -176,7 +176,7 @@ AreAllowedCalls g a (call ∷ calls) = IsAllowedCall g a call × AreAllowedCalls
 abbrev pub InEveryMember : (GroupKeys → MemberState → Type 0) → Type 0
 InEveryMember P = (g : GroupKeys) (number time draw : ℕ) (calls : List MemberCall)
     → IsGroup g → number < length g.members.names →
-    let begun = member_opening (length g.members.names) number time draw in
+    let begun = initial_member (length g.members.names) number time draw in
     AreAllowedCalls g begun calls → P g (after_calls g calls begun)
 
 -- ---- what is published
@@ -216,27 +216,27 @@ NumbersNeverFall = (g : GroupKeys) (calls : List MemberCall) (a : MemberState) (
 
 -- The vector that the member heard in a call, if it took one.
 abbrev pub vector_taken : Result (List ℕ) HearRefusal → List (List ℕ)
-vector_taken (Ok reported) = reported ∷ []
+vector_taken (Ok received) = received ∷ []
 vector_taken (Err refusal) = []
 
 -- The vector that the member hears in this call, if it takes one.
 abbrev pub vector_of_call : GroupKeys → MemberState → MemberCall → List (List ℕ)
 vector_of_call g a (Hear octets time draw) = vector_taken (hear_verdict g a octets)
-vector_of_call g a (HearVector reported time draw) = vector_taken (vector_verdict a reported)
+vector_of_call g a (HearVector received time draw) = vector_taken (vector_verdict a received)
 vector_of_call g a (JoinFrom octets) = vector_taken (hear_verdict g a octets)
-vector_of_call g a (JoinVector reported) = vector_taken (vector_verdict a reported)
+vector_of_call g a (JoinVector received) = vector_taken (vector_verdict a received)
 vector_of_call g a _ = []
 
 -- The vectors that it heard in calls, in order.
-abbrev pub vectors_reported : GroupKeys → List MemberCall → MemberState → List (List ℕ)
-vectors_reported g [] a = []
-vectors_reported g (call ∷ calls) a = vector_of_call g a call ++ vectors_reported g calls (after_call g call a)
+abbrev pub vectors_received : GroupKeys → List MemberCall → MemberState → List (List ℕ)
+vectors_received g [] a = []
+vectors_received g (call ∷ calls) a = vector_of_call g a call ++ vectors_received g calls (after_call g call a)
 
 -- A member knows the join of what it knew and of what it heard, and of itself how many objects it published.
 abbrev pub KnownIsTheJoin : Type 0
 KnownIsTheJoin = (g : GroupKeys) (calls : List MemberCall) (a : MemberState) → IsMemberState a
     → (after_calls g calls a).known
-    ≡ slice_set (join_all (a.known ∷ vectors_reported g calls a)) a.number (length (after_calls g calls a).log)
+    ≡ slice_set (join_all (a.known ∷ vectors_received g calls a)) a.number (length (after_calls g calls a).log)
 
 -- ---- what is held
 

@@ -11,7 +11,7 @@ use Rattle.repo_process.specs.Insertions.{Insertions}
 use Rattle.group_model.specs.Publications.{Logs, last_of}
 use Rattle.group_model.specs.Sound.{IsConsistentVector}
 use Rattle.repo_member.specs.Groups.{GroupKeys}
-use Rattle.repo_member.specs.MemberState.{MemberState, member_holdings, member_plan, member_opening, member_publishes}
+use Rattle.repo_member.specs.MemberState.{MemberState, member_holdings, member_plan, initial_member, member_publishes}
 use Rattle.repo_member.specs.MemberState.{member_learns}
 use Rattle.repo_holdings.specs.Taking.{Fetched}
 use Rattle.repo_member.specs.MemberState.{member_hears, member_fires, member_claims, member_accepts, member_takes}
@@ -26,7 +26,7 @@ use Rattle.repo_member.specs.ConsistentHolders.{ArrivesConsistently}
 -- A member begins so in a group in which nothing has been published.
 abbrev pub BeginsConsistent : Type 0
 BeginsConsistent = (g : GroupKeys) (n number time draw : ℕ) → number < n
-    → IsConsistentMember g (replicate n []) (member_opening n number time draw)
+    → IsConsistentMember g (replicate n []) (initial_member n number time draw)
 
 -- It publishes an object or a withdrawal, and its log has it from now on.
 abbrev pub PublishesConsistent : Type 0
@@ -47,15 +47,15 @@ LogsHaveGrown = (logs : Logs) (j : ℕ) (post : Post) → j < length logs
 
 -- It is informed of a vector that reports no publication that there isn't.
 abbrev pub LearnsConsistent : Type 0
-LearnsConsistent = (g : GroupKeys) (logs : Logs) (reported : List ℕ) (a : MemberState)
-    → IsConsistentVector logs reported → IsConsistentMember g logs a
-    → IsConsistentMember g logs (member_learns reported a)
+LearnsConsistent = (g : GroupKeys) (logs : Logs) (received : List ℕ) (a : MemberState)
+    → IsConsistentVector logs received → IsConsistentMember g logs a
+    → IsConsistentMember g logs (member_learns received a)
 
 -- It hears a vector that reports no publication that there isn't.
 abbrev pub HearsConsistent : Type 0
-HearsConsistent = (g : GroupKeys) (logs : Logs) (reported : List ℕ) (time draw : ℕ) (a : MemberState)
-    → IsConsistentVector logs reported
-    → IsConsistentMember g logs a → IsConsistentMember g logs (member_hears reported time draw a)
+HearsConsistent = (g : GroupKeys) (logs : Logs) (received : List ℕ) (time draw : ℕ) (a : MemberState)
+    → IsConsistentVector logs received
+    → IsConsistentMember g logs a → IsConsistentMember g logs (member_hears received time draw a)
 
 -- Insertion processes are its own affair.
 abbrev pub InsertsConsistent : Type 0

@@ -9,13 +9,13 @@ use Rattle.repo_plan.specs.Plan.{is_wanted, is_unclaimed}
 use Rattle.repo_object.specs.Verdict.{ring_verdict}
 use Rattle.repo_holdings.specs.Records.{Packet}
 use Rattle.repo_holdings.specs.HoldingsState.{HoldingsState, AreInOrder, held_plan}
-use Rattle.repo_holdings.specs.Taking.{Fetched, with_all_fetched, with_all_tries, takes_too}
+use Rattle.repo_holdings.specs.Taking.{Fetched, with_all_fetched, with_all_tries, after_outcome}
 use Rattle.repo_holdings.specs.Wanting.{want_at}
 use Rattle.group_model.specs.Publications.{Logs}
 use Rattle.group_model.specs.Sound.{IsKnown, IsConsistentVector, IsHeldSoundly, IsPublishedPart}
 use Rattle.repo_member.specs.Groups.{GroupKeys}
-use Rattle.repo_member.specs.MemberState.{MemberState, member_opening, member_holdings, member_takes}
-use Rattle.repo_member.specs.InGroup.{AreLogs, StoresConsistently, published_packet, that_came}
+use Rattle.repo_member.specs.MemberState.{MemberState, initial_member, member_holdings, member_takes}
+use Rattle.repo_member.specs.InGroup.{AreLogs, StoresConsistently, published_packet, parts_fetched}
 use Rattle.repo_member.specs.ConsistentMembers.{IsConsistentMember, published_want, published_packets}
 
 -- A hidden publication is known, and no part of it is held.
@@ -35,7 +35,7 @@ pub record IsConsistentHolder (g : GroupKeys) (logs : Logs) (h : HoldingsState) 
 
 -- A member that published nothing, and has of others what is held.
 abbrev pub member_with : HoldingsState → MemberState
-member_with h = record (member_opening 0 0 0 0) {
+member_with h = record (initial_member 0 0 0 0) {
   known = h.known;
   store = h.store;
   hidden = h.hidden;
@@ -87,7 +87,7 @@ PacketsPassForHolders = (g : GroupKeys) (logs : Logs) (h : HoldingsState) (t : P
 abbrev pub FetchedAreStored : Type 0
 FetchedAreStored = (xs : List Fetched) (stored : List Packet) (u : Part)
     → contains part_cmp (keys (with_all_fetched xs stored)) u
-    ≡ (contains part_cmp (that_came xs) u || contains part_cmp (keys stored) u)
+    ≡ (contains part_cmp (parts_fetched xs) u || contains part_cmp (keys stored) u)
 
 -- A member takes all at once.
 abbrev pub MembersTakeAll : Type 0
@@ -104,4 +104,4 @@ pub record ArrivesConsistently (g : GroupKeys) (logs : Logs) (h : HoldingsState)
 abbrev pub HoldersTakeConsistently : Type 0
 HoldersTakeConsistently = (g : GroupKeys) (logs : Logs) (xs : List Fetched) (h : HoldingsState) → AreLogs g logs
     → All (λ x. IfSome x.packet (ArrivesConsistently g logs h x.part)) xs → IsConsistentHolder g logs h
-    → IsConsistentHolder g logs (takes_too xs h)
+    → IsConsistentHolder g logs (after_outcome xs h)

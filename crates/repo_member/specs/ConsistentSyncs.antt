@@ -18,8 +18,8 @@ KeysAreFound = (nodes : NodeKeys) (number : ℕ) (node : List Component) → Hav
     → slice_get nodes.names number ≡ Some node → key_number (encoding (key_name node)) nodes.ring ≡ Some number
 
 -- A sync Interest of a member tells its number and the vector.
-abbrev pub SyncsAreReported : Type 0
-SyncsAreReported = (g : GroupKeys) (logs : Logs) (sender : ℕ) (vector : List ℕ) → AreLogs g logs
+abbrev pub SyncsAreReceived : Type 0
+SyncsAreReceived = (g : GroupKeys) (logs : Logs) (sender : ℕ) (vector : List ℕ) → AreLogs g logs
     → sender < length g.members.names → IsConsistentVector logs vector
     → sync_verdict g.name g.members.names g.members.ring (sync_of g sender vector) ≡ Ok (sender, vector)
 

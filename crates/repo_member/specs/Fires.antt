@@ -6,8 +6,8 @@ use Rattle.repo_member.specs.declared.member.syncing.Fire.{Fire}
 use Rattle.repo_member.specs.declared.member.syncing.Fire.TheVariants.{Early, Quiet, Sent}
 
 -- it does what its machine says, and what it sends are these octets
-abbrev pub ReportsFire : Fired → List ℕ → Fire → Type 0
-ReportsFire fired.Early octets Early = Unit {0}
-ReportsFire fired.Quiet octets Quiet = Unit {0}
-ReportsFire fired.Send octets (Sent sync) = sync.items ≡ octets
-ReportsFire _ octets _ = ⊥
+abbrev pub IsFireAnswer : Fired → List ℕ → Fire → Type 0
+IsFireAnswer fired.Early octets Early = Unit {0}
+IsFireAnswer fired.Quiet octets Quiet = Unit {0}
+IsFireAnswer fired.Send octets (Sent sync) = sync.items ≡ octets
+IsFireAnswer _ octets _ = ⊥

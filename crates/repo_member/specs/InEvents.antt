@@ -10,9 +10,10 @@ use Rattle.repo_object.specs.Objects.{NamedContents}
 use Rattle.repo_object.specs.Objects.Post.{Offers, Withdraws}
 use Rattle.repo_command.specs.declared.command.Command.{Command}
 use Rattle.group_model.specs.Publications.{Logs}
-use Rattle.group_model.specs.Events.{SyncInterest, Came, Event}
+use Rattle.group_model.specs.Events.{SyncInterest, Response, Event}
 use Rattle.group_model.specs.World.{Environment, World, member, logs, sent_at, catalogue_at}
-use Rattle.group_model.specs.Steps.{drawn, open_at, passes_checks, came_from, came_as, planned_parts, fetched_parts}
+use Rattle.group_model.specs.Steps.{drawn, unclaimed_at, passes_checks, response_from, response_read, planned_parts}
+use Rattle.group_model.specs.Steps.{fetched_parts}
 use Rattle.group_model.specs.Steps.{attempts_for, settled_vector, new_parts, block_at, after_gathering, after_event}
 use Rattle.group_model.specs.Steps.{reply_to}
 use Rattle.group_model.specs.Replies.{Reply}
@@ -25,7 +26,7 @@ use Rattle.repo_holdings.specs.Taking.{Fetched}
 use Rattle.repo_member.specs.MemberState.{member_claims, member_accepts, member_takes, member_ends_claims}
 use Rattle.repo_member.specs.MemberState.{member_resets}
 use Rattle.repo_member.specs.MemberState.{member_restarts}
-use Rattle.repo_member.specs.InGroup.{in_group, StoresInOrder, AreLogs, StoresConsistently, asked_for, that_came}
+use Rattle.repo_member.specs.InGroup.{in_group, StoresInOrder, AreLogs, StoresConsistently, asked_for, parts_fetched}
 use Rattle.repo_member.specs.InGroup.{AreTries}
 use Rattle.repo_member.specs.Commanded.{member_obeys, member_after_order, answer_to, member_order_answer}
 use Rattle.repo_member.specs.Blocks.{member_block, member_blocks}
@@ -45,109 +46,109 @@ pub record IsConsistentIn (g : GroupKeys) (w : World) (a : MemberState) : Type 0
 
 -- The member publishes an object.
 abbrev pub PublishIsEvent : Type 0
-PublishIsEvent = (out : Environment) (w : World) (j : ℕ) (g : GroupKeys) (object : NamedContents) (a : MemberState)
+PublishIsEvent = (env : Environment) (w : World) (j : ℕ) (g : GroupKeys) (object : NamedContents) (a : MemberState)
     → IsMemberOf w j a → StoresInOrder a
-    → member (after_event out w (Event.Publish j object)) j
-    ≡ in_group (member_publishes g (Offers object) w.time (drawn out w j) a)
+    → member (after_event env w (Event.Publish j object)) j
+    ≡ in_group (member_publishes g (Offers object) w.time (drawn env w j) a)
 
 -- The member withdraws a publication.
 abbrev pub WithdrawIsEvent : Type 0
-WithdrawIsEvent = (out : Environment) (w : World) (j seq : ℕ) (g : GroupKeys) (a : MemberState)
+WithdrawIsEvent = (env : Environment) (w : World) (j seq : ℕ) (g : GroupKeys) (a : MemberState)
     → IsMemberOf w j a → StoresInOrder a
-    → member (after_event out w (Event.Withdraw j seq)) j
-    ≡ in_group (member_publishes g (Withdraws seq) w.time (drawn out w j) a)
+    → member (after_event env w (Event.Withdraw j seq)) j
+    ≡ in_group (member_publishes g (Withdraws seq) w.time (drawn env w j) a)
 
 -- The member hears a sync Interest that was sent in the group.
 abbrev pub DeliverIsEvent : Type 0
-DeliverIsEvent = (out : Environment) (w : World) (k j : ℕ) (a : MemberState) → IsMemberOf w j a
-    → member (after_event out w (Event.Deliver k j)) j
-    ≡ in_group (member_hears (sent_at w k).vector w.time (drawn out w j) a)
+DeliverIsEvent = (env : Environment) (w : World) (k j : ℕ) (a : MemberState) → IsMemberOf w j a
+    → member (after_event env w (Event.Deliver k j)) j
+    ≡ in_group (member_hears (sent_at w k).vector w.time (drawn env w j) a)
 
 -- A vector that reports more publications of the member than it made is refused.
 abbrev pub HearIsEvent : Type 0
-HearIsEvent = (out : Environment) (w : World) (j : ℕ) (sync : SyncInterest) (a : MemberState) → IsMemberOf w j a
-    → member (after_event out w (Event.Hear j (Some sync))) j
+HearIsEvent = (env : Environment) (w : World) (j : ℕ) (sync : SyncInterest) (a : MemberState) → IsMemberOf w j a
+    → member (after_event env w (Event.Hear j (Some sync))) j
     ≡ in_group
     (if nat_lt (length a.log) (slice_index sync.vector a.number) then a
-    else member_hears sync.vector w.time (drawn out w j) a)
+    else member_hears sync.vector w.time (drawn env w j) a)
 
 -- The member's timer is asked.
 abbrev pub FireIsEvent : Type 0
-FireIsEvent = (out : Environment) (w : World) (j : ℕ) (a : MemberState) → IsMemberOf w j a
-    → member (after_event out w (Event.Fire j)) j ≡ in_group (member_fires w.time (drawn out w j) a)
+FireIsEvent = (env : Environment) (w : World) (j : ℕ) (a : MemberState) → IsMemberOf w j a
+    → member (after_event env w (Event.Fire j)) j ≡ in_group (member_fires w.time (drawn env w j) a)
 
 -- The member starts again.
 abbrev pub RestartIsEvent : Type 0
-RestartIsEvent = (out : Environment) (w : World) (j : ℕ) (a : MemberState) → IsMemberOf w j a
-    → member (after_event out w (Event.Restart j)) j ≡ in_group (member_restarts w.time (drawn out w j) a)
+RestartIsEvent = (env : Environment) (w : World) (j : ℕ) (a : MemberState) → IsMemberOf w j a
+    → member (after_event env w (Event.Restart j)) j ≡ in_group (member_restarts w.time (drawn env w j) a)
 
 -- ---- what is claimed and comes
 
 -- A fetcher that claims nothing claims the part that the group says.
 abbrev pub ClaimIsEvent : Type 0
-ClaimIsEvent = (out : Environment) (w : World) (j f : ℕ) (g : GroupKeys) (a : MemberState)
+ClaimIsEvent = (env : Environment) (w : World) (j f : ℕ) (g : GroupKeys) (a : MemberState)
     → IsMemberOf w j a → IsConsistentIn g w a → claim_of (member_plan a) f ≡ None
-    → member (after_event out w (Event.Claim j f)) j ≡ in_group (member_claims f (first (unclaimed (member_plan a))) a)
+    → member (after_event env w (Event.Claim j f)) j ≡ in_group (member_claims f (first (unclaimed (member_plan a))) a)
 
 -- A fetcher loses its claim.
 abbrev pub LoseIsEvent : Type 0
-LoseIsEvent = (out : Environment) (w : World) (j f : ℕ) (a : MemberState) → IsMemberOf w j a
-    → member (after_event out w (Event.Lose j f)) j ≡ in_group (member_claims f None a)
+LoseIsEvent = (env : Environment) (w : World) (j f : ℕ) (a : MemberState) → IsMemberOf w j a
+    → member (after_event env w (Event.Lose j f)) j ≡ in_group (member_claims f None a)
 
 -- What another member gives for a claimed part is accepted where it passes its checks.
 abbrev pub AnswerIsEvent : Type 0
-AnswerIsEvent = (out : Environment) (w : World) (j f q : ℕ) (t : Part) (octets : List ℕ) (a : MemberState)
+AnswerIsEvent = (env : Environment) (w : World) (j f q : ℕ) (t : Part) (octets : List ℕ) (a : MemberState)
     → IsMemberOf w j a → StoresInOrder a → claim_of (member_plan a) f ≡ Some t
-    → member (after_event out w (Event.Answer j f q)) j
-    ≡ in_group (if passes_checks (came_from out w q (Some t)) then member_accepts f t octets a else a)
+    → member (after_event env w (Event.Answer j f q)) j
+    ≡ in_group (if passes_checks (response_from env w q (Some t)) then member_accepts f t octets a else a)
 
 -- So are octets from outside.
 abbrev pub FeedIsEvent : Type 0
-FeedIsEvent = (out : Environment) (w : World) (j f : ℕ) (read : Logs → Part → Came) (t : Part) (octets : List ℕ)
+FeedIsEvent = (env : Environment) (w : World) (j f : ℕ) (read : Logs → Part → Response) (t : Part) (octets : List ℕ)
     (a : MemberState)
     → IsMemberOf w j a → StoresInOrder a → claim_of (member_plan a) f ≡ Some t
-    → member (after_event out w (Event.Feed j f read)) j
-    ≡ in_group (if passes_checks (came_as w read (Some t)) then member_accepts f t octets a else a)
+    → member (after_event env w (Event.Feed j f read)) j
+    ≡ in_group (if passes_checks (response_read w read (Some t)) then member_accepts f t octets a else a)
 
 -- A fetch's outcome is that of the group's fetch.
-pub record IsOutcomeIn (out : Environment) (w : World) (j tries loss : ℕ) (xs : List Fetched) : Type 0 where
+pub record IsOutcomeIn (env : Environment) (w : World) (j tries loss : ℕ) (xs : List Fetched) : Type 0 where
   pub asked : asked_for xs ≡ planned_parts w j
-  pub came : that_came xs ≡ fetched_parts out w j tries loss
-  pub tried : AreTries (attempts_for out w j tries loss) xs
+  pub came : parts_fetched xs ≡ fetched_parts env w j tries loss
+  pub tried : AreTries (attempts_for env w j tries loss) xs
 
 -- What came of a fetch is taken, where the group has the same outcome.
 abbrev pub FetchIsEvent : Type 0
-FetchIsEvent = (out : Environment) (w : World) (j tries loss : ℕ) (xs : List Fetched) (a : MemberState)
-    → IsMemberOf w j a → StoresInOrder a → IsOutcomeIn out w j tries loss xs
-    → member (after_event out w (Event.Fetch j tries loss)) j ≡ in_group (member_takes xs a)
+FetchIsEvent = (env : Environment) (w : World) (j tries loss : ℕ) (xs : List Fetched) (a : MemberState)
+    → IsMemberOf w j a → StoresInOrder a → IsOutcomeIn env w j tries loss xs
+    → member (after_event env w (Event.Fetch j tries loss)) j ≡ in_group (member_takes xs a)
 
 -- ---- commands and blocks
 
 -- A command that a client made, or octets that are refused with this code.
 abbrev pub OrderIsEvent : Type 0
-OrderIsEvent = (out : Environment) (w : World) (j : ℕ) (order : Result (ℕ × Command) ℕ) (g : GroupKeys)
+OrderIsEvent = (env : Environment) (w : World) (j : ℕ) (order : Result (ℕ × Command) ℕ) (g : GroupKeys)
     (a : MemberState)
     → IsMemberOf w j a → IsConsistentIn g w a
-    → member (after_event out w (Event.Order j order)) j ≡ in_group (member_after_order order a)
+    → member (after_event env w (Event.Order j order)) j ≡ in_group (member_after_order order a)
 
 -- The group replies to such a command with the member's answer.
 abbrev pub OrderIsAnswered : Type 0
-OrderIsAnswered = (out : Environment) (w : World) (j : ℕ) (order : Result (ℕ × Command) ℕ) (g : GroupKeys)
+OrderIsAnswered = (env : Environment) (w : World) (j : ℕ) (order : Result (ℕ × Command) ℕ) (g : GroupKeys)
     (a : MemberState)
     → IsMemberOf w j a → IsConsistentIn g w a
-    → reply_to out w (Event.Order j order) ≡ Reply.Commanded (member_order_answer order a)
+    → reply_to env w (Event.Order j order) ≡ Reply.Commanded (member_order_answer order a)
 
 -- A client makes a command and gives it to the member.
 abbrev pub IssueIsEvent : Type 0
-IssueIsEvent = (out : Environment) (w : World) (j client : ℕ) (command : Command) (g : GroupKeys) (a : MemberState)
+IssueIsEvent = (env : Environment) (w : World) (j client : ℕ) (command : Command) (g : GroupKeys) (a : MemberState)
     → IsMemberOf w j a → IsConsistentIn g w a
-    → member (after_event out w (Event.Issue j client command)) j ≡ in_group (member_obeys command a)
+    → member (after_event env w (Event.Issue j client command)) j ≡ in_group (member_obeys command a)
 
 -- The group replies to a command that a client makes with the member's answer.
 abbrev pub IssueIsAnswered : Type 0
-IssueIsAnswered = (out : Environment) (w : World) (j client : ℕ) (command : Command) (g : GroupKeys) (a : MemberState)
+IssueIsAnswered = (env : Environment) (w : World) (j client : ℕ) (command : Command) (g : GroupKeys) (a : MemberState)
     → IsMemberOf w j a → IsConsistentIn g w a
-    → reply_to out w (Event.Issue j client command) ≡ Reply.Commanded (answer_to command a)
+    → reply_to env w (Event.Issue j client command) ≡ Reply.Commanded (answer_to command a)
 
 -- A block comes to the same in both.
 abbrev pub BlockStatesAlike : Type 0
@@ -156,18 +157,18 @@ BlockStatesAlike = (w : World) (j process index : ℕ) (content : List ℕ) (a :
 
 -- One that is taken.
 abbrev pub BlockIsEvent : Type 0
-BlockIsEvent = (out : Environment) (w : World) (j process index : ℕ) (content : List ℕ) (g : GroupKeys)
+BlockIsEvent = (env : Environment) (w : World) (j process index : ℕ) (content : List ℕ) (g : GroupKeys)
     (a : MemberState)
-    → IsMemberOf w j a → StoresInOrder a → refusal out w (Event.Block j process index content) ≡ None
-    → member (after_event out w (Event.Block j process index content)) j
-    ≡ in_group (member_blocks g process index content w.time (drawn out w j) a)
+    → IsMemberOf w j a → StoresInOrder a → refusal env w (Event.Block j process index content) ≡ None
+    → member (after_event env w (Event.Block j process index content)) j
+    ≡ in_group (member_blocks g process index content w.time (drawn env w j) a)
 
 -- ---- a settle
 
 -- What vectors make of a member, where its machine isn't informed of them.
 abbrev pub learns_all : List (List ℕ) → MemberState → MemberState
 learns_all [] a = a
-learns_all (reported ∷ others) a = learns_all others (member_learns reported a)
+learns_all (received ∷ others) a = learns_all others (member_learns received a)
 
 -- It comes to know the join of them all, and nothing else of it changes.
 abbrev pub LearnsAtOnce : Type 0
@@ -186,30 +187,30 @@ LearnsWhatAllKnow = (w : World) (a : MemberState) (vectors : List (List ℕ)) �
 -- The member is informed of what all know, the parts come that it gains there, in any order, and none is counted as
 -- tried.
 pub record IsSettling (w : World) (j : ℕ) (a : MemberState) (vectors : List (List ℕ)) (xs : List Fetched) : Type 0 where
-  pub reported : AreAllVectors w a vectors
-  pub came : (t : Part) → contains part_cmp (that_came xs) t ≡ contains part_cmp (new_parts w (member w j)) t
+  pub received : AreAllVectors w a vectors
+  pub came : (t : Part) → contains part_cmp (parts_fetched xs) t ≡ contains part_cmp (new_parts w (member w j)) t
   pub tried : AreTries (λ t. 0) xs
 
 -- In a settle the member learns all vectors and takes what came of others.
 abbrev pub GatheringIsEvent : Type 0
-GatheringIsEvent = (out : Environment) (w : World) (j : ℕ) (vectors : List (List ℕ)) (xs : List Fetched)
+GatheringIsEvent = (env : Environment) (w : World) (j : ℕ) (vectors : List (List ℕ)) (xs : List Fetched)
     (a : MemberState)
     → IsMemberOf w j a → StoresInOrder a → IsSettling w j a vectors xs
-    → member (after_gathering out w) j ≡ in_group (member_takes xs (learns_all vectors (member_ends_claims a)))
+    → member (after_gathering env w) j ≡ in_group (member_takes xs (learns_all vectors (member_ends_claims a)))
 
 -- After a settle the member's machine is Steady anew, too.
 abbrev pub SettleIsEvent : Type 0
-SettleIsEvent = (out : Environment) (w : World) (j : ℕ) (vectors : List (List ℕ)) (xs : List Fetched) (a : MemberState)
+SettleIsEvent = (env : Environment) (w : World) (j : ℕ) (vectors : List (List ℕ)) (xs : List Fetched) (a : MemberState)
     → IsMemberOf w j a → StoresInOrder a → IsSettling w j a vectors xs
-    → member (after_event out w Event.Settle) j
-    ≡ in_group (member_resets w.time (drawn out w j) (member_takes xs (learns_all vectors (member_ends_claims a))))
+    → member (after_event env w Event.Settle) j
+    ≡ in_group (member_resets w.time (drawn env w j) (member_takes xs (learns_all vectors (member_ends_claims a))))
 
 -- ---- what is told
 
 -- The parts that a member can claim or fetch, and its catalogue.
 abbrev pub OpenPartsAlike : Type 0
 OpenPartsAlike = (w : World) (j : ℕ) (g : GroupKeys) (a : MemberState) → IsMemberOf w j a → IsConsistentIn g w a
-    → open_at w j ≡ unclaimed (member_plan a)
+    → unclaimed_at w j ≡ unclaimed (member_plan a)
 
 -- The member lists the catalogue that the group has for it.
 abbrev pub CataloguesAlike : Type 0

@@ -6,7 +6,7 @@ use Rattle.std.specs.List.{All}
 use Rattle.svs_vector.specs.Vectors.{join}
 use Rattle.svs_sync.specs.declared.fired.Fired.{Fired}
 use Rattle.svs_sync.specs.declared.fired.Fired.TheVariants as fired
-use Rattle.svs_sync.specs.KeptVector.{fires_kept}
+use Rattle.svs_sync.specs.SyncStates.{fires_joined}
 use Rattle.repo_plan.specs.declared.part.Part.{Part}
 use Rattle.repo_plan.specs.Parts.{part_cmp, pair_of}
 use Rattle.sorted_lists.specs.SortedList.{keys, contains, value_of, Rises}
@@ -17,17 +17,17 @@ use Rattle.repo_process.specs.Processes.{Process}
 use Rattle.repo_process.specs.Insertions.{next_number}
 use Rattle.repo_object.specs.Publication.{packet_at}
 use Rattle.group_model.specs.Publications.{Logs, post_at, last_of}
-use Rattle.group_model.specs.Member.{Member, member_holds, catalogue, catalogued_under, gains, member_hides_all}
+use Rattle.group_model.specs.Member.{Member, member_holds, catalogue, catalogued_under, gains, deletes_all}
 use Rattle.group_model.specs.Member.{with_each_tried, member_without_claims}
 use Rattle.group_model.specs.Member as group_member
 use Rattle.group_model.specs.Sound.{IsPublished, IsSoundMember}
 use Rattle.group_model.specs.Wanted.{IsWantedPart, HoldsRecords}
 use Rattle.group_model.specs.Changes as group
-use Rattle.group_model.specs.World.{Environment, member, opening_world}
+use Rattle.group_model.specs.World.{Environment, member, initial_world}
 use Rattle.group_model.specs.Steps.{can_start}
 use Rattle.repo_member.specs.Groups.{GroupKeys, IsGroup, publisher_at}
 use Rattle.repo_holdings.specs.Listed.{member_catalogue}
-use Rattle.repo_member.specs.MemberState.{MemberState, ArePosts, publication_limit, member_plan, member_opening}
+use Rattle.repo_member.specs.MemberState.{MemberState, ArePosts, publication_limit, member_plan, initial_member}
 use Rattle.repo_member.specs.MemberState.{member_publishes}
 use Rattle.repo_holdings.specs.Taking.{Fetched}
 use Rattle.repo_member.specs.MemberState.{member_learns, member_hears, member_fires, member_claims, member_accepts}
@@ -60,8 +60,8 @@ StoresInOrder a = Rises part_cmp (keys a.store)
 -- A member begins as each does in a group in which nothing has happened.
 abbrev pub BeginsAlike : Type 0
 BeginsAlike =
-    (out : Environment) (n j : ℕ) → j < n → in_group (member_opening n j 0 (out.draw j 0))
-    ≡ member (opening_world out n) j
+    (env : Environment) (n j : ℕ) → j < n → in_group (initial_member n j 0 (env.draw j 0))
+    ≡ member (initial_world env n) j
 
 -- It publishes an object or a withdrawal, and stores all its packets.
 abbrev pub PublishesAlike : Type 0
@@ -70,13 +70,13 @@ PublishesAlike = (g : GroupKeys) (post : Post) (time draw : ℕ) (a : MemberStat
 
 -- It is informed of a vector.
 abbrev pub HearsAlike : Type 0
-HearsAlike = (reported : List ℕ) (time draw : ℕ) (a : MemberState)
-    → in_group (member_hears reported time draw a) ≡ group.learns draw time reported (in_group a)
+HearsAlike = (received : List ℕ) (time draw : ℕ) (a : MemberState)
+    → in_group (member_hears received time draw a) ≡ group.learns draw time received (in_group a)
 
 -- A vector that the machine isn't informed of, as in a settle.
 abbrev pub LearnsAlike : Type 0
-LearnsAlike = (reported : List ℕ) (a : MemberState)
-    → in_group (member_learns reported a) ≡ record (in_group a) { known = join (in_group a).known reported }
+LearnsAlike = (received : List ℕ) (a : MemberState)
+    → in_group (member_learns received a) ≡ record (in_group a) { known = join (in_group a).known received }
 
 -- What the timer makes of a member, by what it says.
 abbrev pub after_timer : Fired → (draw time : ℕ) → Member → Member
@@ -88,7 +88,7 @@ after_timer fired.Send draw time m = group.resets draw time m
 abbrev pub FiresAlike : Type 0
 FiresAlike = (time draw : ℕ) (a : MemberState)
     → in_group (member_fires time draw a)
-    ≡ after_timer (fires_kept time (in_group a).known (in_group a).machine) draw time (in_group a)
+    ≡ after_timer (fires_joined time (in_group a).known (in_group a).machine) draw time (in_group a)
 
 -- A fetcher claims a part, or nothing.
 abbrev pub ClaimsAlike : Type 0
@@ -105,8 +105,8 @@ abbrev pub asked_for : List Fetched → List Part
 asked_for xs = map (λ x. x.part) xs
 
 -- The parts of a fetch whose packets came.
-abbrev pub that_came : List Fetched → List Part
-that_came xs = asked_for (filter (λ x. is_some x.packet) xs)
+abbrev pub parts_fetched : List Fetched → List Part
+parts_fetched xs = asked_for (filter (λ x. is_some x.packet) xs)
 
 -- Each part was tried so often.
 abbrev pub AreTries : (Part → ℕ) → List Fetched → Type 0
@@ -116,7 +116,7 @@ AreTries tries xs = All (λ x. x.attempts ≡ tries x.part) xs
 abbrev pub TakesAlike : Type 0
 TakesAlike = (tries : Part → ℕ) (xs : List Fetched) (a : MemberState) → StoresInOrder a → AreTries tries xs
     → in_group (member_takes xs a)
-    ≡ record (gains (that_came xs) (in_group a)) {
+    ≡ record (gains (parts_fetched xs) (in_group a)) {
       attempts = with_each_tried tries (asked_for xs) (in_group a).attempts;
     }
 
@@ -197,7 +197,7 @@ ListsAlike = (g : GroupKeys) (logs : Logs) (a : MemberState) → AreLogs g logs 
 abbrev pub DeletesAlike : Type 0
 DeletesAlike = (g : GroupKeys) (logs : Logs) (name : List Component) (a : MemberState) → AreLogs g logs
     → StoresConsistently g logs a
-    → in_group (member_deletes name a) ≡ member_hides_all (catalogued_under logs (in_group a) name) (in_group a)
+    → in_group (member_deletes name a) ≡ deletes_all (catalogued_under logs (in_group a) name) (in_group a)
 
 -- ---- what lasts
 
@@ -207,9 +207,9 @@ pub record IsItsPacket (g : GroupKeys) (logs : Logs) (t : Part) (octets : List �
   pub packet : published_packet g logs t ≡ Some octets
 
 -- So is the packet that came for a part, if one did.
-abbrev pub CameConsistently : GroupKeys → Logs → Part → Option (List ℕ) → Type 0
-CameConsistently g logs t None = Unit {0}
-CameConsistently g logs t (Some octets) = IsItsPacket g logs t octets
+abbrev pub IsConsistentFetch : GroupKeys → Logs → Part → Option (List ℕ) → Type 0
+IsConsistentFetch g logs t None = Unit {0}
+IsConsistentFetch g logs t (Some octets) = IsItsPacket g logs t octets
 
 -- What was published stays under its number, and there may be more.
 abbrev pub GrowInto : Logs → Logs → Type 0
@@ -218,7 +218,7 @@ GrowInto logs later = (p : ℕ) → take (last_of logs p) (slice_index_or later 
 -- A member that has just begun stores nothing.
 abbrev pub BeginsConsistently : Type 0
 BeginsConsistently = (g : GroupKeys) (logs : Logs) (members number time draw : ℕ)
-    → StoresConsistently g logs (member_opening members number time draw)
+    → StoresConsistently g logs (initial_member members number time draw)
 
 -- Others may publish more.
 abbrev pub GrowsConsistently : Type 0
@@ -242,7 +242,7 @@ AcceptsConsistently = (g : GroupKeys) (logs : Logs) (f : ℕ) (t : Part) (octets
 -- So is each that a fetch brought.
 abbrev pub TakesConsistently : Type 0
 TakesConsistently = (g : GroupKeys) (logs : Logs) (xs : List Fetched) (a : MemberState)
-    → All (λ x. CameConsistently g logs x.part x.packet) xs → StoresConsistently g logs a
+    → All (λ x. IsConsistentFetch g logs x.part x.packet) xs → StoresConsistently g logs a
     → StoresConsistently g logs (member_takes xs a)
 
 -- All other changes store nothing.

@@ -4,7 +4,7 @@ pub use Rattle.ndn_sign.specs.Ring
 pub use Rattle.ndn_data.specs.Data
 pub use Rattle.svs_vector.specs.Vectors
 pub use Rattle.svs_vector.specs.Rosters
-pub use Rattle.svs_sync.specs.KeptVector
+pub use Rattle.svs_sync.specs.SyncStates
 pub use Rattle.sorted_lists.specs.SortedList
 pub use Rattle.repo_plan.specs.Parts
 pub use Rattle.repo_plan.specs.Plan

@@ -3,7 +3,7 @@ use Rattle.std.specs.Prelude.{◌≡◌, ℕ, ◌+◌, ◌-◌, ◌<◌, true, L
 use Rattle.std.specs.Prelude.{slice_set, slice_index, replicate, ◌==◌, if◌then◌else◌}
 use Rattle.std.specs.Option.{option_and_then}
 use Rattle.svs_vector.specs.Vectors.{join}
-use Rattle.svs_sync.specs.KeptVector.{Keeper, steady_kept, hears_kept, fired_kept}
+use Rattle.svs_sync.specs.SyncStates.{SyncState, steady_joined, hears_joined, fired_joined}
 use Rattle.svs_sync.specs.Suppression.{periodic}
 use Rattle.repo_plan.specs.declared.part.Part.{Part}
 use Rattle.repo_plan.specs.Parts.{Pair, part_cmp}
@@ -32,7 +32,7 @@ pub record MemberState : Type 0 where
   pub hidden : List Pair  -- in order
   pub claims : List (Option Part)  -- by fetcher; the first stands at place 0
   pub attempts : List (Part × ℕ)  -- in order, without 0
-  pub machine : Keeper
+  pub machine : SyncState
   pub insertions : Insertions  -- its insertion processes
 
 -- no insertion processes
@@ -40,8 +40,8 @@ abbrev pub no_insertions : Insertions
 no_insertions = record { processes = []; next_process = 1 }
 
 -- a member of so many that has nothing
-abbrev pub member_opening : ℕ → ℕ → ℕ → ℕ → MemberState
-member_opening members number time draw = record {
+abbrev pub initial_member : ℕ → ℕ → ℕ → ℕ → MemberState
+initial_member members number time draw = record {
   number = number;
   log = [];
   known = replicate members 0;
@@ -106,7 +106,7 @@ member_publishes g post time draw a = record a {
   log = a.log ++ post ∷ [];
   known = slice_set a.known a.number (next_seq a);
   store = with_packets (new_packets g post a) a.store;
-  machine = steady_kept time draw a.machine;
+  machine = steady_joined time draw a.machine;
 }
 
 -- the packet of an own part that was published, whether it is still stored or not
@@ -125,16 +125,16 @@ logged g a t =
 
 -- The member knows of all that a vector reports.
 abbrev pub member_learns : List ℕ → MemberState → MemberState
-member_learns reported a = record a { known = join a.known reported }
+member_learns received a = record a { known = join a.known received }
 
 -- the machine hears the vector while the member still knows the one before
 abbrev pub member_hears : List ℕ → ℕ → ℕ → MemberState → MemberState
-member_hears reported time draw a =
-    record (member_learns reported a) { machine = hears_kept time reported a.known draw a.machine a.machine.heard }
+member_hears received time draw a =
+    record (member_learns received a) { machine = hears_joined time received a.known draw a.machine a.machine.heard }
 
 -- The member's timer is asked at this time, in milliseconds.
 abbrev pub member_fires : ℕ → ℕ → MemberState → MemberState
-member_fires time draw a = record a { machine = fired_kept time draw a.machine }
+member_fires time draw a = record a { machine = fired_joined time draw a.machine }
 
 -- ---- fetching
 
@@ -169,7 +169,7 @@ member_ends_claims a = record a { claims = no_claims }
 
 -- The member's machine is Steady from this time on.
 abbrev pub member_resets : ℕ → ℕ → MemberState → MemberState
-member_resets time draw a = record a { machine = steady_kept time draw a.machine }
+member_resets time draw a = record a { machine = steady_joined time draw a.machine }
 
 -- Insertion processes end, and their numbers go on.
 abbrev pub member_clears : MemberState → MemberState

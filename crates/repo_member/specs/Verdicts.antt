@@ -22,15 +22,15 @@ sync_of g number vector =
 
 -- a vector that is heard, unless it reports more publications of the member than it made
 abbrev pub vector_verdict : MemberState → List ℕ → Result (List ℕ) HearRefusal
-vector_verdict a reported =
-    if nat_lt (length a.log) (slice_index reported a.number)
-    then Err (OwnNumberAhead (length a.log) (slice_index reported a.number))
-    else Ok reported
+vector_verdict a received =
+    if nat_lt (length a.log) (slice_index received a.number)
+    then Err (OwnNumberAhead (length a.log) (slice_index received a.number))
+    else Ok received
 
 -- the same of the vector of a sync Interest, where the octets are one
-abbrev pub reported_verdict : MemberState → Result (ℕ × List ℕ) SyncRefusal → Result (List ℕ) HearRefusal
-reported_verdict a (Err refusal) = Err (Sync refusal)
-reported_verdict a (Ok reported) = vector_verdict a reported.1
+abbrev pub received_verdict : MemberState → Result (ℕ × List ℕ) SyncRefusal → Result (List ℕ) HearRefusal
+received_verdict a (Err refusal) = Err (Sync refusal)
+received_verdict a (Ok received) = vector_verdict a received.1
 
 -- who signed the sync Interest of the group that octets are, and the vector that it tells; or why they are refused
 abbrev pub group_verdict : GroupKeys → List ℕ → Result (ℕ × List ℕ) SyncRefusal
@@ -38,7 +38,7 @@ group_verdict g octets = sync_verdict g.name g.members.names g.members.ring octe
 
 -- the vector that octets tell the member, or why they are refused
 abbrev pub hear_verdict : GroupKeys → MemberState → List ℕ → Result (List ℕ) HearRefusal
-hear_verdict g a octets = reported_verdict a (group_verdict g octets)
+hear_verdict g a octets = received_verdict a (group_verdict g octets)
 
 -- a part, where a packet passes for it
 abbrev pub passed : Part → Result Data PartRefusal → Result Part AcceptRefusal

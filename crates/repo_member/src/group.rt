@@ -9,8 +9,8 @@ use ndn_name::Name;
 use ndn_sign::KeyRing;
 use std::alloc::{AllocError, Global};
 use std::marker::Model;
-use svs_sync::{SyncRefusal, check_reported};
-use svs_vector::{MEMBER_LIMIT, ReportedNumbers, Roster};
+use svs_sync::{SyncRefusal, check_numbers};
+use svs_vector::{MEMBER_LIMIT, Roster, VectorNumbers};
 
 /// How many clients a group may have.
 const CLIENT_LIMIT: usize = MEMBER_LIMIT;
@@ -114,11 +114,11 @@ impl Group {
     }
 
     /// What holds of every group. Costs nothing, and is called for its clause.
-    pub fn is_sound(&self)
+    pub fn cite_soundness(&self)
         ensures { IsGroup self.now }
     {
-        self.members.is_sound();
-        self.clients.is_sound();
+        self.members.cite_soundness();
+        self.clients.cite_soundness();
     }
 
     /// The members' names.
@@ -158,17 +158,14 @@ impl Group {
 
     /// The number of the member that signed a sync Interest of the group, and the numbers that it tells. It takes no
     /// memory.
-    pub(crate) fn check_reported(
-        &self,
-        octets: &[u8],
-    ) -> Result<(u32, ReportedNumbers), SyncRefusal>
+    pub(crate) fn check_numbers(&self, octets: &[u8]) -> Result<(u32, VectorNumbers), SyncRefusal>
         ensures verdict { MatchResult result
-            (λ reported. group_verdict self.now octets.now ≡ Ok (reported.0, reported.1))
+            (λ received. group_verdict self.now octets.now ≡ Ok (received.0, received.1))
             (λ refusal. group_verdict self.now octets.now ≡ Err refusal) }
-        ensures width { IfOk result (λ reported. length reported.1 ≡ length self.now.members.names) }
-        ensures members { IfOk result (λ reported. length reported.1 ≤ node_limit) }
+        ensures width { IfOk result (λ received. length received.1 ≡ length self.now.members.names) }
+        ensures members { IfOk result (λ received. length received.1 ≤ node_limit) }
     {
-        check_reported(octets, &self.name, self.roster(), self.members())
+        check_numbers(octets, &self.name, self.roster(), self.members())
     }
 
     // Whether a member or a client has the name.

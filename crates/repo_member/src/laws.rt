@@ -33,7 +33,7 @@ ghost use Rattle.repo_member.specs.ConsistentChanges.{DeletesConsistent, ObeysCo
 ghost use Rattle.repo_member.specs.ConsistentChanges.{ResetsConsistent, RestartsConsistent, EndsClaimsConsistent};
 ghost use Rattle.repo_member.specs.ConsistentChanges.{ClaimsConsistent, LosesConsistent};
 ghost use Rattle.repo_member.specs.ConsistentChanges.{AcceptsConsistent, TakesConsistent};
-ghost use Rattle.repo_member.specs.ConsistentSyncs.{KeysAreFound, SyncsAreReported, SyncsAreTaken};
+ghost use Rattle.repo_member.specs.ConsistentSyncs.{KeysAreFound, SyncsAreReceived, SyncsAreTaken};
 ghost use Rattle.repo_member.specs.Commanded.{MadeOrdersAreTaken, OrdersBeyondAreMalformed};
 ghost use Rattle.repo_member.specs.Calls.{LogsGoOn, PublicationsStay, WithdrawalsStay, LoggedPacketsStay};
 ghost use Rattle.repo_member.specs.Calls.{NumbersNeverFall};
@@ -240,7 +240,7 @@ pub fn consistent_members_stay_consistent()
 /// each member takes it.
 pub fn syncs_of_members_are_taken()
     ensures keys { KeysAreFound }
-    ensures reported { SyncsAreReported }
+    ensures received { SyncsAreReceived }
     ensures taken { SyncsAreTaken }
 {}
 

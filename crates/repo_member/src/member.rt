@@ -4,7 +4,7 @@ ghost use Rattle.sorted_lists.specs.SortedList.{value_of};
 ghost use Rattle.repo_plan.specs.Parts.{part_cmp};
 ghost use Rattle.repo_store.specs.Served.{served};
 ghost use Rattle.repo_holdings.specs.Listed.{member_catalogue};
-ghost use Rattle.repo_member.specs.MemberState.{IsMemberState, member_opening, member_ends_claims, member_resets};
+ghost use Rattle.repo_member.specs.MemberState.{IsMemberState, initial_member, member_ends_claims, member_resets};
 ghost use Rattle.repo_member.specs.MemberState.{member_restarts};
 
 mod block;
@@ -85,7 +85,7 @@ impl Member {
         requires number { number < length g.now.members.names }
         requires early { now < 2 ^ 62 }
         ensures { IfOk result (λ member.
-            member ≡ member_opening (length g.now.members.names) number now draw) }
+            member ≡ initial_member (length g.now.members.names) number now draw) }
     {
         let members = g.roster().len();
         Ok(Member {

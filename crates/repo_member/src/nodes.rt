@@ -57,7 +57,7 @@ impl Nodes {
     }
 
     // What holds of all node names and keys. Costs nothing, and is called for its clause.
-    pub(crate) fn is_sound(&self)
+    pub(crate) fn cite_soundness(&self)
         ensures { HaveKeys self.now }
     {
         let _ = &self.names;

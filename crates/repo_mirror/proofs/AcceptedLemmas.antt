@@ -5,7 +5,7 @@ use Rattle.std.specs.Prelude.{◌==◌}
 use Rattle.std.specs.List.{All}
 use Rattle.std.specs.Option.{option_and_then}
 use Rattle.std.proofs.lemmas.Bool.{eqb-true}
-use Rattle.repo_plan.specs.Parts.{Pair, pair_of, part_of, parts_after}
+use Rattle.repo_plan.specs.Parts.{Pair, pair_of, part_of, last_part}
 use Rattle.sorted_lists.proofs.Sets.{In, from_map}
 use Rattle.sorted_lists.proofs.Members.{all_in, in_all}
 use Rattle.repo_object.specs.Publication.{Listed, RecordSays}
@@ -20,8 +20,8 @@ use Rattle.repo_holdings.specs.Listed.{is_withdrawn, listed_shape, listing_in, o
 use Rattle.repo_watch.specs.declared.pattern.Pattern.{Pattern}
 use Rattle.repo_watch.specs.Patterns.{accepts}
 use Rattle.repo_mirror.specs.Mirrors.{is_entry_accepted}
-use Rattle.repo_mirror.specs.Passing.{is_reported_kept, is_packet_kept}
-use Rattle.repo_mirror.specs.KeptPackets.{IsKeptPacket, AreKeptPackets}
+use Rattle.repo_mirror.specs.Passing.{is_summary_for, is_packet_for}
+use Rattle.repo_mirror.specs.PacketsFor.{IsPacketFor, ArePacketsFor}
 
 -- where a value of a map comes from
 from_kept : {K V W : Type 0} (f : K → V → Option W) (es : List (K × V)) (x : K × W) → In x (kept_values f es)
@@ -50,11 +50,11 @@ from_records (e ∷ es) x i = go (λ j. inr (from_records es x j)) (e.0.part == 
 -- the record of an object that is kept is of one that the pattern is for
 pub record_accepted : (pattern : Pattern) (pair : Pair) (octets : List ℕ) (l : Listed) → stated_in octets
     ≡ Some (Lists l)
-    → is_packet_kept pattern (part_of pair 0) octets ≡ true → accepts pattern pair.0 l.name ≡ true
+    → is_packet_for pattern (part_of pair 0) octets ≡ true → accepts pattern pair.0 l.name ≡ true
 record_accepted pattern pair octets l stated kept =
-    sym (ap (λ (o : Option RecordSays). is_reported_kept pattern pair.0 (option_map summary_of o)) stated) ∙ kept
+    sym (ap (λ (o : Option RecordSays). is_summary_for pattern pair.0 (option_map summary_of o)) stated) ∙ kept
 
-module _ (pattern : Pattern) (store : List Packet) (are : AreKeptPackets pattern store) where
+module _ (pattern : Pattern) (store : List Packet) (are : ArePacketsFor pattern store) where
   accepted_entry : (pair : Pair) (octets : List ℕ) (e : Entry) → In (part_of pair 0, octets) store
       → cond (is_withdrawn store pair) None (option_and_then (entry_listed store pair) (listing_in octets)) ≡ Some e
       → is_entry_accepted pattern e ≡ true
@@ -67,13 +67,13 @@ module _ (pattern : Pattern) (store : List Packet) (are : AreKeptPackets pattern
         let same : entry_of_listing store pair l ≡ e = cc in
         ap (is_entry_accepted pattern) (sym same)
         ∙ record_accepted pattern pair octets l stated
-        (in_all (IsKeptPacket pattern) store (part_of pair 0, octets) are i).kept
+        (in_all (IsPacketFor pattern) store (part_of pair 0, octets) are i).kept
 
     stated : (s : Option RecordSays) → stated_in octets ≡ s
         → option_and_then (entry_listed store pair) (option_and_then object_stated s) ≡ Some e
         → is_entry_accepted pattern e ≡ true
     stated None p k = absurd cc
-    stated (Some (Lists l)) p k = listed l p (are_stored store pair (parts_after (listed_shape l))) k
+    stated (Some (Lists l)) p k = listed l p (are_stored store pair (last_part (listed_shape l))) k
     stated (Some (WithdrawsNumber seq)) p k = absurd cc
 
     withdrawn : (b : Bool) → cond b None (option_and_then (entry_listed store pair) (listing_in octets)) ≡ Some e

@@ -20,16 +20,16 @@ length-asked asked p [] = refl
 length-asked asked p (n ∷ ns) = ap suc (length-asked asked (p + 1) ns)
 
 -- what is reported of one publisher more
-next_asked : (asked : Option ℕ) (p : ℕ) (v reported : List ℕ) (i q : ℕ) → p + i ≡ q → i < length reported
-    → length reported ≡ length v
-    → slice_set (asked_numbers asked p (join v (take i reported))) i
-    (max (slice_index (asked_numbers asked p (join v (take i reported))) i)
-    (cond (is_publisher asked q) (slice_index reported i) 0))
-    ≡ asked_numbers asked p (join v (take (suc i) reported))
+next_asked : (asked : Option ℕ) (p : ℕ) (v received : List ℕ) (i q : ℕ) → p + i ≡ q → i < length received
+    → length received ≡ length v
+    → slice_set (asked_numbers asked p (join v (take i received))) i
+    (max (slice_index (asked_numbers asked p (join v (take i received))) i)
+    (cond (is_publisher asked q) (slice_index received i) 0))
+    ≡ asked_numbers asked p (join v (take (suc i) received))
 unfolding join
-next_asked asked p [] reported i q e inside same = absurd (omega (arith, inside, same))
+next_asked asked p [] received i q e inside same = absurd (omega (arith, inside, same))
 next_asked asked p (x ∷ v) [] i q e inside same = absurd (omega (arith, inside))
-next_asked asked p (x ∷ v) (y ∷ reported) zero q e inside same =
+next_asked asked p (x ∷ v) (y ∷ received) zero q e inside same =
     ap (λ (k : ℕ).
     max (cond (is_publisher asked p) x 0) (cond (is_publisher asked k) y 0) ∷ asked_numbers asked (p + 1) v) here
     ∙ ap (λ (k : ℕ). k ∷ asked_numbers asked (p + 1) v) (both (is_publisher asked p))
@@ -41,15 +41,15 @@ next_asked asked p (x ∷ v) (y ∷ reported) zero q e inside same =
       both : (b : Bool) → max (cond b x 0) (cond b y 0) ≡ cond b (max x y) 0
       both true = refl
       both false = omega arith
-next_asked asked p (x ∷ v) (y ∷ reported) (suc i) q e inside same =
+next_asked asked p (x ∷ v) (y ∷ received) (suc i) q e inside same =
     ap (λ (rest : List ℕ). cond (is_publisher asked p) (max x y) 0 ∷ rest)
-    (next_asked asked (p + 1) v reported i q (omega (arith, e)) (omega (arith, inside)) (omega (arith, same)))
+    (next_asked asked (p + 1) v received i q (omega (arith, e)) (omega (arith, inside)) (omega (arith, same)))
 
-pub asked_next : (asked : Option ℕ) (v reported : List ℕ) (i : ℕ) → i < length reported → length reported ≡ length v
-    → slice_set (asked_numbers asked 0 (join v (take i reported))) i
-    (max (slice_index (asked_numbers asked 0 (join v (take i reported))) i)
-    (cond (is_publisher asked i) (slice_index reported i) 0))
-    ≡ asked_numbers asked 0 (join v (take (i + 1) reported))
-asked_next asked v reported i inside same =
-    next_asked asked 0 v reported i i (omega arith) inside same
-    ∙ ap (λ (n : ℕ). asked_numbers asked 0 (join v (take n reported))) (sym (add-one i))
+pub asked_next : (asked : Option ℕ) (v received : List ℕ) (i : ℕ) → i < length received → length received ≡ length v
+    → slice_set (asked_numbers asked 0 (join v (take i received))) i
+    (max (slice_index (asked_numbers asked 0 (join v (take i received))) i)
+    (cond (is_publisher asked i) (slice_index received i) 0))
+    ≡ asked_numbers asked 0 (join v (take (i + 1) received))
+asked_next asked v received i inside same =
+    next_asked asked 0 v received i i (omega arith) inside same
+    ∙ ap (λ (n : ℕ). asked_numbers asked 0 (join v (take n received))) (sym (add-one i))

@@ -10,9 +10,9 @@ use Rattle.repo_holdings.proofs.FreshLemmas.{fetched_stays}
 use Rattle.repo_holdings.proofs.GainingLemmas.{contains-value}
 use Rattle.repo_watch.specs.declared.pattern.Pattern.{Pattern}
 use Rattle.repo_member.specs.Outcomes.{outcome_of}
-use Rattle.repo_mirror.specs.KeptPackets.{IsKeptPacket}
-use Rattle.repo_mirror.specs.MirrorState.{MirrorState, mirror_opening}
-use Rattle.repo_mirror.specs.Passing.{that_are_kept, passed_over}
+use Rattle.repo_mirror.specs.PacketsFor.{IsPacketFor}
+use Rattle.repo_mirror.specs.MirrorState.{MirrorState, initial_mirror}
+use Rattle.repo_mirror.specs.Passing.{fetches_for, passed_over}
 use Rattle.repo_mirror.specs.MirrorCalls.{MirrorCall, Learn, TakeOutcome, after_mirror_call, after_mirror_calls}
 use Rattle.repo_mirror.specs.MirrorCalls.{IsAllowedMirrorCall, AreAllowedMirrorCalls, InEveryMirror, PassedIsGone}
 use Rattle.repo_mirror.specs.MirrorCalls.{StoredStays, PassedStays, KnowsTheJoin, vectors_learnt}
@@ -21,17 +21,17 @@ use Rattle.repo_mirror.proofs.TakenLemmas.{hidden_is}
 
 -- ---- what calls reach
 
-reached_opening : (pattern : Pattern) (members : ℕ) → IsReached (mirror_opening pattern members)
+reached_opening : (pattern : Pattern) (members : ℕ) → IsReached (initial_mirror pattern members)
 reached_opening pattern members = record {
   in_order = tt;
   recorded = λ t h. absurd (true≢false (sym h));
   gone = λ t h. refl;
-  packets = All-nil (IsKeptPacket pattern);
+  packets = All-nil (IsPacketFor pattern);
 }
 
 reached_call : (call : MirrorCall) (m : MirrorState) → IsAllowedMirrorCall m call → IsReached m
     → IsReached (after_mirror_call call m)
-reached_call (Learn reported) m can r =
+reached_call (Learn received) m can r =
     record { in_order = r.in_order; recorded = r.recorded; gone = r.gone; packets = r.packets }
 reached_call (TakeOutcome jobs parts attempts) m can r = reached_takes m jobs parts attempts can.0 can.1 r
 
@@ -43,7 +43,7 @@ reached_calls (call ∷ calls) m can r =
 
 pub in_every_mirror : (P : MirrorState → Type 0) → ((m : MirrorState) → IsReached m → P m) → InEveryMirror P
 in_every_mirror P holds pattern members calls can =
-    let begun = mirror_opening pattern members in
+    let begun = initial_mirror pattern members in
     holds (after_mirror_calls calls begun) (reached_calls calls begun can (reached_opening pattern members))
 
 pub passed_is_gone : (m : MirrorState) → IsReached m → PassedIsGone m
@@ -56,15 +56,15 @@ passed_is_gone m r t h = go (value_of part_cmp m.store t) (sym (contains-value m
 
 pub stored_stays : StoredStays
 stored_stays [] m t octets h = h
-stored_stays (Learn reported ∷ calls) m t octets h = stored_stays calls (after_mirror_call (Learn reported) m) t octets
+stored_stays (Learn received ∷ calls) m t octets h = stored_stays calls (after_mirror_call (Learn received) m) t octets
     h
 stored_stays (TakeOutcome jobs parts attempts ∷ calls) m t octets h =
     stored_stays calls (after_mirror_call (TakeOutcome jobs parts attempts) m) t octets
-    (fetched_stays (that_are_kept m.pattern (outcome_of jobs parts attempts)) m.store t octets h)
+    (fetched_stays (fetches_for m.pattern (outcome_of jobs parts attempts)) m.store t octets h)
 
 pub passed_stays : PassedStays
 passed_stays [] m pair h = h
-passed_stays (Learn reported ∷ calls) m pair h = passed_stays calls (after_mirror_call (Learn reported) m) pair h
+passed_stays (Learn received ∷ calls) m pair h = passed_stays calls (after_mirror_call (Learn received) m) pair h
 passed_stays (TakeOutcome jobs parts attempts ∷ calls) m pair h =
     let newly = passed_over m.pattern (outcome_of jobs parts attempts) in
     passed_stays calls (after_mirror_call (TakeOutcome jobs parts attempts) m) pair
@@ -73,8 +73,8 @@ passed_stays (TakeOutcome jobs parts attempts ∷ calls) m pair h =
 pub knows_the_join : KnowsTheJoin
 unfolding join_all
 knows_the_join [] m = sym (join-[] m.known)
-knows_the_join (Learn reported ∷ calls) m =
-    knows_the_join calls (after_mirror_call (Learn reported) m)
-    ∙ join_assoc m.known reported (join_all (vectors_learnt calls))
+knows_the_join (Learn received ∷ calls) m =
+    knows_the_join calls (after_mirror_call (Learn received) m)
+    ∙ join_assoc m.known received (join_all (vectors_learnt calls))
 knows_the_join (TakeOutcome jobs parts attempts ∷ calls) m =
     knows_the_join calls (after_mirror_call (TakeOutcome jobs parts attempts) m)

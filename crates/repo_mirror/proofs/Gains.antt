@@ -12,7 +12,7 @@ use Rattle.sorted_lists.proofs.Sets.{eq_same, eq_itself, contains-insert_key}
 use Rattle.repo_watch.specs.declared.pattern.Pattern.{Pattern}
 use Rattle.group_model.specs.Publications.{Logs, shape_at, count}
 use Rattle.group_model.proofs.Parents.{record_lists_itself}
-use Rattle.repo_mirror.specs.Asked.{is_kept}
+use Rattle.repo_mirror.specs.Asked.{is_for}
 use Rattle.repo_mirror.specs.Mirrors.{Mirror, mirror_holds, IsWantedByMirror, IsKeptSoundly, IsPassedSoundly}
 use Rattle.repo_mirror.specs.Mirrors.{IsSoundMirror, mirror_gains}
 use Rattle.repo_mirror.specs.MirrorLaws.{GainsPart, MirrorsGain}
@@ -40,7 +40,7 @@ module _ (pattern : Pattern) (ls : Logs) (m : Mirror) (t : Part) (sound : IsSoun
   counted : t.part ≤ count ls (pair_of t)
   counted = elim wanted.part [ inl z ↦ omega (arith, z) | inr s ↦ s.counted ]
 
-  parent_kept : is_kept pattern ls (pair_of t) ≡ true
+  parent_kept : is_for pattern ls (pair_of t) ≡ true
       → contains part_cmp kept_too.kept (parent (shape_at ls (pair_of t)) t) ≡ true
   parent_kept a = elim wanted.part [
     | inl z ↦
@@ -51,7 +51,7 @@ module _ (pattern : Pattern) (ls : Logs) (m : Mirror) (t : Part) (sound : IsSoun
         (held_kept pattern ls m sound (parent (shape_at ls (pair_of t)) t) a s.with_parent)
   ]
 
-  record_kept : is_kept pattern ls (pair_of t) ≡ true → contains part_cmp kept_too.kept (record_of t) ≡ true
+  record_kept : is_for pattern ls (pair_of t) ≡ true → contains part_cmp kept_too.kept (record_of t) ≡ true
   record_kept a = elim wanted.part [
     | inl z ↦
         subst (λ (u : Part). contains part_cmp kept_too.kept u ≡ true)
@@ -62,7 +62,7 @@ module _ (pattern : Pattern) (ls : Logs) (m : Mirror) (t : Part) (sound : IsSoun
         (held_kept pattern ls m sound (parent (shape_at ls (pair_of t)) t) a s.with_parent)).with_record
   ]
 
-  keeps : is_kept pattern ls (pair_of t) ≡ true → IsSoundMirror pattern ls kept_too
+  keeps : is_for pattern ls (pair_of t) ≡ true → IsSoundMirror pattern ls kept_too
   keeps a = record {
     kept = λ u h.
         elim (or_cases (eq_by_cmp part_cmp u t) (contains part_cmp m.kept u)
@@ -94,7 +94,7 @@ module _ (pattern : Pattern) (ls : Logs) (m : Mirror) (t : Part) (sound : IsSoun
 
   -- ---- of another
 
-  passes : is_kept pattern ls (pair_of t) ≡ false → IsSoundMirror pattern ls passed_too
+  passes : is_for pattern ls (pair_of t) ≡ false → IsSoundMirror pattern ls passed_too
   passes a = record {
     kept = λ u h.
         let s : IsKeptSoundly pattern ls m u = sound.kept u h in
@@ -119,7 +119,7 @@ module _ (pattern : Pattern) (ls : Logs) (m : Mirror) (t : Part) (sound : IsSoun
   }
 
   -- it is a record
-  is_record : is_kept pattern ls (pair_of t) ≡ false → t.part ≡ 0
+  is_record : is_for pattern ls (pair_of t) ≡ false → t.part ≡ 0
   is_record a = elim wanted.part [ inl z ↦ z | inr s ↦ absurd (true≢false (sym s.accepted ∙ a)) ]
 
   holds_kept : (u : Part) → mirror_holds kept_too u ≡ (eq_by_cmp part_cmp u t || mirror_holds m u)
@@ -133,7 +133,7 @@ module _ (pattern : Pattern) (ls : Logs) (m : Mirror) (t : Part) (sound : IsSoun
       either true y z = refl
       either false y z = refl
 
-  holds_passed : is_kept pattern ls (pair_of t) ≡ false → (u : Part)
+  holds_passed : is_for pattern ls (pair_of t) ≡ false → (u : Part)
       → mirror_holds passed_too u ≡ (eq_by_cmp part_cmp u t || mirror_holds m u)
   holds_passed a u =
       ap (λ (b : Bool). contains part_cmp m.kept u || (u.part == 0 && b))
@@ -169,8 +169,8 @@ module _ (pattern : Pattern) (ls : Logs) (m : Mirror) (t : Part) (sound : IsSoun
         go false nought p pe false ee k h = refl
 
   gained : GainsPart pattern ls t m
-  gained = go (is_kept pattern ls (pair_of t)) refl where
-    go : (b : Bool) → is_kept pattern ls (pair_of t) ≡ b → GainsPart pattern ls t m
+  gained = go (is_for pattern ls (pair_of t)) refl where
+    go : (b : Bool) → is_for pattern ls (pair_of t) ≡ b → GainsPart pattern ls t m
     go true a =
         let new : mirror_gains pattern ls t m ≡ kept_too = ap (λ (b : Bool). cond b kept_too passed_too) a in
         record {
@@ -189,7 +189,7 @@ gain pattern ls m t s h = gained pattern ls m t s h
 
 pub gains_known : (pattern : Pattern) (ls : Logs) (t : Part) (m : Mirror)
     → (mirror_gains pattern ls t m).known ≡ m.known
-gains_known pattern ls t m = go (is_kept pattern ls (pair_of t)) where
+gains_known pattern ls t m = go (is_for pattern ls (pair_of t)) where
   go : (b : Bool)
       → (cond b (record m { kept = insert_key part_cmp t m.kept })
       (record m { passed = insert_key pair_cmp (pair_of t) m.passed })).known

@@ -10,10 +10,10 @@ use Rattle.group_model.specs.Sound.{IsKnown}
 use Rattle.repo_mirror.specs.Mirrors.{IsWantedByMirror}
 use Rattle.repo_mirror.proofs.Wants.{want_those}
 use Rattle.repo_mirror.proofs.Lists as mirrors
-use Rattle.repo_member.specs.MemberState.{member_opening}
+use Rattle.repo_member.specs.MemberState.{initial_member}
 use Rattle.repo_member.proofs.PublicLaws.{plans_alike, lists_alike, begins_consistently, stays_consistent}
 use Rattle.repo_member.specs.ConsistentHolders.{member_with}
-use Rattle.repo_mirror.specs.MirrorState.{MirrorState, mirror_opening, mirror_holdings}
+use Rattle.repo_mirror.specs.MirrorState.{MirrorState, initial_mirror, mirror_holdings}
 use Rattle.repo_mirror.specs.ConsistentMirrors.{mirror_in_group, MirrorsPlanAlike, MirrorsWantAlike}
 use Rattle.repo_mirror.specs.ConsistentMirrors.{MirrorsListAlike, MirrorsBeginConsistent, MirrorsLearnConsistent}
 
@@ -39,7 +39,7 @@ nothing_known (suc n) (suc p) = nothing_known n p
 
 pub mirrors_begin_consistent : MirrorsBeginConsistent
 mirrors_begin_consistent g logs pattern =
-    let m : MirrorState = mirror_opening pattern (length logs) in
+    let m : MirrorState = initial_mirror pattern (length logs) in
     let zero_number : ℕ = 0 in
     record {
       vector = record {
@@ -48,31 +48,31 @@ mirrors_begin_consistent g logs pattern =
       };
       sound = record { kept = λ t h. absurd cc; passed = λ pair h. absurd cc };
       stored =
-          stays_consistent g logs (member_opening 0 0 0 0) (member_with (mirror_holdings m)) refl
+          stays_consistent g logs (initial_member 0 0 0 0) (member_with (mirror_holdings m)) refl
           (begins_consistently g logs 0 0 0 0);
     }
 
-joined_knows : (v reported : List ℕ) (pair : Pair) → IsKnown v pair → IsKnown (join v reported) pair
-joined_knows v reported pair k =
-    let at = join-at v reported pair.0 in
+joined_knows : (v received : List ℕ) (pair : Pair) → IsKnown v pair → IsKnown (join v received) pair
+joined_knows v received pair k =
+    let at = join-at v received pair.0 in
     record { from_one = k.from_one; to_known = omega (arith, at, k.to_known) }
 
 pub mirrors_learn_consistent : MirrorsLearnConsistent
-mirrors_learn_consistent g logs m reported consistent_reported is =
-    let next : MirrorState = record m { known = join m.known reported } in
+mirrors_learn_consistent g logs m received consistent_received is =
+    let next : MirrorState = record m { known = join m.known received } in
     record {
       vector = record {
-        width = length-join m.known reported (is.vector.width ∙ sym consistent_reported.width) ∙ is.vector.width;
+        width = length-join m.known received (is.vector.width ∙ sym consistent_received.width) ∙ is.vector.width;
         no_more = λ p.
-            let at = join-at m.known reported p in
-            let mine = is.vector.no_more p in let theirs = consistent_reported.no_more p in omega
+            let at = join-at m.known received p in
+            let mine = is.vector.no_more p in let theirs = consistent_received.no_more p in omega
             (arith, at, mine, theirs);
       };
       sound = record {
         kept = λ t h.
             let s = is.sound.kept t h in
             record {
-              known = joined_knows m.known reported (pair_of t) s.known;
+              known = joined_knows m.known received (pair_of t) s.known;
               publisher = s.publisher;
               counted = s.counted;
               with_record = s.with_record;
@@ -82,7 +82,7 @@ mirrors_learn_consistent g logs m reported consistent_reported is =
         passed = λ pair h.
             let s = is.sound.passed pair h in
             record {
-              known = joined_knows m.known reported pair s.known;
+              known = joined_knows m.known received pair s.known;
               publisher = s.publisher;
               not_accepted = s.not_accepted;
             };

@@ -1,10 +1,10 @@
 -- Mirrors of a group that has published more.
 use Rattle.std.proofs.Common.{◌≡◌, ◌≤◌, true, sym, ap, ◌∙◌, subst, arith}
-use Rattle.repo_plan.specs.Parts.{Pair, pair_of, parts_after}
+use Rattle.repo_plan.specs.Parts.{Pair, pair_of, last_part}
 use Rattle.repo_object.specs.Objects.{Post, shape_in}
 use Rattle.group_model.specs.Publications.{post_at}
 use Rattle.group_model.specs.Sound.{IsKnown}
-use Rattle.repo_mirror.specs.Asked.{is_kept_post}
+use Rattle.repo_mirror.specs.Asked.{is_post_for}
 use Rattle.repo_member.proofs.PublicLaws.{grows_consistently}
 use Rattle.repo_member.specs.ConsistentHolders.{member_with}
 use Rattle.repo_member.proofs.LastingPackets.{grown_last, grown_post}
@@ -28,19 +28,19 @@ mirrors_grow_consistent g logs later m grows wide is = record {
         record {
           known = s.known;
           publisher = s.publisher;
-          counted = subst (λ (o : Post). t.part ≤ parts_after (shape_in o)) (sym same) s.counted;
+          counted = subst (λ (o : Post). t.part ≤ last_part (shape_in o)) (sym same) s.counted;
           with_record = s.with_record;
           with_parent =
               subst (λ (o : Post). contains part_cmp (keys m.store) (parent (shape_in o) t) ≡ true) (sym same)
               s.with_parent;
-          accepted = ap (is_kept_post m.pattern t.publisher) same ∙ s.accepted;
+          accepted = ap (is_post_for m.pattern t.publisher) same ∙ s.accepted;
         };
     passed = λ pair h.
         let s = is.sound.passed pair h in
         record {
           known = s.known;
           publisher = s.publisher;
-          not_accepted = ap (is_kept_post m.pattern pair.0) (post pair s.known) ∙ s.not_accepted;
+          not_accepted = ap (is_post_for m.pattern pair.0) (post pair s.known) ∙ s.not_accepted;
         };
   };
   stored = grows_consistently g logs later (member_with (mirror_holdings m)) grows is.stored;

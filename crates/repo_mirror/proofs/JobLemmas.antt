@@ -8,7 +8,7 @@ use Rattle.repo_plan.specs.declared.part.Part.{Part}
 use Rattle.sorted_lists.specs.SortedList.{contains}
 use Rattle.repo_plan.specs.declared.shape.Shape.{Shape}
 use Rattle.repo_plan.specs.Parts.{Pair, pair_cmp, pair_of, part_of}
-use Rattle.repo_plan.specs.Plan.{PlanState, holds, shape_of, can_be_asked, is_asked, knows, is_wanted}
+use Rattle.repo_plan.specs.Plan.{PlanState, holds, shape_of, is_listed_part, may_be_asked_for, knows, is_wanted}
 use Rattle.repo_plan.specs.Sound.{PlanIsSound}
 use Rattle.repo_plan.proofs.Changes.{wanted_parts}
 use Rattle.repo_object.specs.declared.job.Job.{Job}
@@ -102,7 +102,7 @@ module _ (m : MirrorState) where
       can_be_taken arrived =
           let wanted = wanted_parts (fetch_plan m) job.want.part is.part_wanted in
           record {
-            asked = ap (is_asked (fetch_plan m)) same ∙ wanted.asked;
+            asked = ap (may_be_asked_for (fetch_plan m)) same ∙ wanted.asked;
             not_held = ap (holds (fetch_plan m)) same ∙ wanted.not_held;
             not_hidden = ap (λ (t : Part). contains pair_cmp m.passed (pair_of t)) same ∙ wanted.not_hidden;
             not_claimed = nothing_claimed m x.part;
@@ -113,12 +113,12 @@ module _ (m : MirrorState) where
 -- ---- a wanted record's publication is unknown
 
 record_known : (plan : PlanState) (pair : Pair) → PlanIsSound plan → holds plan (part_of pair 0) ≡ false → (t : Part)
-    → pair_of t ≡ pair → is_asked plan t ≡ true → t.part ≡ 0
+    → pair_of t ≡ pair → may_be_asked_for plan t ≡ true → t.part ≡ 0
 record_known plan pair sound none t same asked =
     go (shape_of plan pair) (sound.shapes pair ∙ none)
-    (ap (λ (q : Pair). can_be_asked plan.held (shape_of plan q) t) (sym same)
-    ∙ (and_parts (knows plan (pair_of t)) (can_be_asked plan.held (shape_of plan (pair_of t)) t) asked).1) where
-      go : (o : Option Shape) → is_some o ≡ false → can_be_asked plan.held o t ≡ true → t.part ≡ 0
+    (ap (λ (q : Pair). is_listed_part plan.held (shape_of plan q) t) (sym same)
+    ∙ (and_parts (knows plan (pair_of t)) (is_listed_part plan.held (shape_of plan (pair_of t)) t) asked).1) where
+      go : (o : Option Shape) → is_some o ≡ false → is_listed_part plan.held o t ≡ true → t.part ≡ 0
       go None h k = eqb-true t.part 0 k
       go (Some shape) h k = absurd (true≢false h)
 

@@ -9,7 +9,7 @@ use Rattle.svs_vector.specs.Vectors.{join_all}
 use Rattle.svs_vector.proofs.JoinLemmas.{join-at}
 use Rattle.repo_plan.specs.declared.part.Part.{Part}
 use Rattle.sorted_lists.specs.SortedList.{contains}
-use Rattle.repo_plan.specs.Parts.{Pair, pair_cmp, pair_of, part_of, record_of, parent, parent_number, parts_after}
+use Rattle.repo_plan.specs.Parts.{Pair, pair_cmp, pair_of, part_of, record_of, parent, parent_number, last_part}
 use Rattle.sorted_lists.proofs.Sets.{In}
 use Rattle.repo_object.specs.Objects.{Post, shape_in, contents_of, withdraws_number}
 use Rattle.repo_watch.specs.declared.pattern.Pattern.{Pattern}
@@ -20,23 +20,23 @@ use Rattle.group_model.specs.Member.{Member, member_holds}
 use Rattle.group_model.specs.World.{World, no_member, member, logs, someone_holds}
 use Rattle.group_model.specs.Steps.{settled_vector}
 use Rattle.group_model.specs.Sound.{IsSoundGroup, IsSoundMember, IsKnown}
-use Rattle.group_model.specs.Laws.{NothingHidden}
+use Rattle.group_model.specs.Laws.{NothingDeleted}
 use Rattle.group_model.proofs.Lists.{all_in, in_at, same_filter, same_any}
 use Rattle.group_model.proofs.Parts.{IsIn, in_published, publisher_within, IsPartOf, from_parts_in}
 use Rattle.group_model.proofs.Parents.{parent_within, parent_of_parent}
-use Rattle.group_model.proofs.Settles.{someone, reported_by, settled_no_more}
-use Rattle.repo_mirror.specs.Asked.{is_kept}
+use Rattle.group_model.proofs.Settles.{someone, knows_settled, settled_no_more}
+use Rattle.repo_mirror.specs.Asked.{is_for}
 use Rattle.repo_mirror.specs.Mirrors.{Mirror, mirror_holds, IsPartAskedFor, IsSoundMirror, mirror_knows_withdrawn}
 use Rattle.repo_mirror.specs.Mirrors.{is_listed_by_mirror, is_entry_accepted}
-use Rattle.repo_mirror.specs.MirrorLaws.{HasComeToRest, KnowsAll, MirrorsLearnAll, MirrorsJoin}
+use Rattle.repo_mirror.specs.MirrorLaws.{WantsNothingHeld, KnowsAll, MirrorsLearnAll, MirrorsJoin}
 use Rattle.repo_mirror.proofs.Lists.{kept_object, kept_of}
 
 -- ---- the vector
 
-none_reported : (ms : List Member) (p : ℕ) → length ms ≤ 0 → get_or (join_all (map (λ m. m.known) ms)) p 0 ≡ 0
+none_received : (ms : List Member) (p : ℕ) → length ms ≤ 0 → get_or (join_all (map (λ m. m.known) ms)) p 0 ≡ 0
 unfolding join_all
-none_reported [] p h = refl
-none_reported (m ∷ ms) p h = absurd (omega (arith, h))
+none_received [] p h = refl
+none_received (m ∷ ms) p h = absurd (omega (arith, h))
 
 pub learn_all : MirrorsLearnAll
 learn_all w m s v p =
@@ -48,7 +48,7 @@ learn_all w m s v p =
       no_more : get_or (settled_vector w) p 0 ≤ last_of (logs w) p
       no_more = elim (cases_lt 0 (length w.members)) [
         | inl l ↦ settled_no_more w s 0 l p
-        | inr none ↦ let nothing = none_reported w.members p none in omega (arith, nothing)
+        | inr none ↦ let nothing = none_received w.members p none in omega (arith, nothing)
       ]
 
       nobody : length w.members ≤ p → last_of (logs w) p ≡ 0
@@ -61,7 +61,7 @@ learn_all w m s v p =
           → max (get_or m.known p 0) (get_or (settled_vector w) p 0) ≡ last_of (logs w) p
       go (inl l) =
           let own : get_or (member w p).known p 0 ≡ last_of (logs w) p = (s.members p l).own in
-          let up : get_or (member w p).known p 0 ≤ get_or (settled_vector w) p 0 = reported_by w s p l p p l in
+          let up : get_or (member w p).known p 0 ≤ get_or (settled_vector w) p 0 = knows_settled w s p l p p l in
           omega (arith, own, up, mine, no_more)
       go (inr past) = let none = nobody past in omega (arith, none, mine, no_more)
 
@@ -85,9 +85,9 @@ both_filters {A} {B} f p g (x ∷ xs) = go (g x) (both_filters f p g xs) where
 
 -- ---- joining all
 
-module _ (pattern : Pattern) (w : World) (m : Mirror) (group : IsSoundGroup w) (clear : NothingHidden w)
+module _ (pattern : Pattern) (w : World) (m : Mirror) (group : IsSoundGroup w) (clear : NothingDeleted w)
     (sound : IsSoundMirror pattern (logs w) m) (all : KnowsAll w m)
-    (rest : HasComeToRest pattern (logs w) w.members m) where
+    (rest : WantsNothingHeld pattern (logs w) w.members m) where
   -- its publisher holds each part of a publication
   someones : (q : Publication) → IsIn (logs w) q → (t : Part) → IsPartOf t q → someone_holds w.members t ≡ true
   someones q is t p =
@@ -103,7 +103,7 @@ module _ (pattern : Pattern) (w : World) (m : Mirror) (group : IsSoundGroup w) (
       ] in
       someone w.members (member w q.publisher) t (in_at w.members q.publisher no_member publisher)
       (subst (λ (pair : Pair). member_holds (member w q.publisher) (part_of pair t.part) ≡ true) (sym p.pair)
-      (held t.part (subst (λ (o : Post). t.part ≤ parts_after (shape_in o)) is.post p.counted)))
+      (held t.part (subst (λ (o : Post). t.part ≤ last_part (shape_in o)) is.post p.counted)))
 
   module _ (q : Publication) (is : IsIn (logs w) q)
       (asked : is_publisher pattern.publisher q.publisher ≡ true) where
@@ -133,11 +133,11 @@ module _ (pattern : Pattern) (w : World) (m : Mirror) (group : IsSoundGroup w) (
     held_record : (t : Part) → IsPartOf t q → mirror_holds m (record_of t) ≡ true
     held_record t p = comes (record_of t) (record { pair = p.pair; counted = omega arith }) (inl refl)
 
-    module _ (accepted : (t : Part) → IsPartOf t q → is_kept pattern (logs w) (pair_of t) ≡ true) where
+    module _ (accepted : (t : Part) → IsPartOf t q → is_for pattern (logs w) (pair_of t) ≡ true) where
       counted : (t : Part) → IsPartOf t q → t.part ≤ count (logs w) (pair_of t)
       counted t p =
           subst (λ (pair : Pair). t.part ≤ count (logs w) pair) (sym p.pair)
-          (subst (λ (o : Post). t.part ≤ parts_after (shape_in o)) is.post p.counted)
+          (subst (λ (o : Post). t.part ≤ last_part (shape_in o)) is.post p.counted)
 
       -- a part after the record, where the part that lists it is held
       after : (t : Part) → IsPartOf t q → (t.part == 0) ≡ false
@@ -160,9 +160,9 @@ module _ (pattern : Pattern) (w : World) (m : Mirror) (group : IsSoundGroup w) (
         up : Part
         up = parent (shape_at (logs w) (pair_of t)) t
 
-        there : up.part ≤ parts_after (shape_in q.post)
+        there : up.part ≤ last_part (shape_in q.post)
         there =
-            subst (λ (o : Post). up.part ≤ parts_after (shape_in o))
+            subst (λ (o : Post). up.part ≤ last_part (shape_in o))
             (ap (post_at (logs w)) p.pair ∙ sym is.post) (parent_within n t.part (counted t p))
 
         go : (b : Bool) → (parent_number (shape_at (logs w) (pair_of t)) t.part == 0) ≡ b → mirror_holds m up ≡ true

@@ -20,8 +20,8 @@ use Rattle.repo_holdings.specs.Taking.{Fetched, with_fetched, with_all_fetched}
 use Rattle.repo_member.specs.Outcomes.{outcome_of}
 use Rattle.repo_watch.specs.declared.pattern.Pattern.{Pattern}
 use Rattle.repo_mirror.specs.MirrorState.{MirrorState, fetch_plan}
-use Rattle.repo_mirror.specs.Passing.{is_packet_kept, is_fetched_kept, that_are_kept}
-use Rattle.repo_mirror.specs.KeptPackets.{PassedFor, CameChecked, IsKeptPacket, AreKeptPackets}
+use Rattle.repo_mirror.specs.Passing.{is_packet_for, is_fetch_for, fetches_for}
+use Rattle.repo_mirror.specs.PacketsFor.{PassedFor, IsCheckedFetch, IsPacketFor, ArePacketsFor}
 use Rattle.repo_mirror.specs.MirrorOutcomes.{AreFetchedFor}
 
 -- ---- what holds of each packet that was stored and of each that came holds of each that is stored then
@@ -60,33 +60,33 @@ module _ (P : Packet → Type 0) where
         one None h = each
         one (Some octets) h = each_put x.part octets es h each
 
-kept_came : (pattern : Pattern) (x : Fetched) → CameChecked x → is_fetched_kept pattern x ≡ true
-    → IfSome x.packet (λ octets. IsKeptPacket pattern (x.part, octets))
+kept_came : (pattern : Pattern) (x : Fetched) → IsCheckedFetch x → is_fetch_for pattern x ≡ true
+    → IfSome x.packet (λ octets. IsPacketFor pattern (x.part, octets))
 kept_came pattern x checked kept = go x.packet checked kept where
   go : (o : Option (List ℕ)) → IfSome o (PassedFor x.part)
-      → unwrap_or (option_map (is_packet_kept pattern x.part) o) true ≡ true
-      → IfSome o (λ octets. IsKeptPacket pattern (x.part, octets))
+      → unwrap_or (option_map (is_packet_for pattern x.part) o) true ≡ true
+      → IfSome o (λ octets. IsPacketFor pattern (x.part, octets))
   go None h k = tt
   go (Some octets) h k = record { checks = h; kept = k }
 
 -- what is kept of what came is stored
 pub kept_packets : (pattern : Pattern) (xs : List Fetched) (store : List Packet)
-    → All CameChecked (that_are_kept pattern xs) → AreKeptPackets pattern store
-    → AreKeptPackets pattern (with_all_fetched (that_are_kept pattern xs) store)
+    → All IsCheckedFetch (fetches_for pattern xs) → ArePacketsFor pattern store
+    → ArePacketsFor pattern (with_all_fetched (fetches_for pattern xs) store)
 kept_packets pattern xs store checked are =
-    let kept : List Fetched = that_are_kept pattern xs in
-    all_in (IsKeptPacket pattern) (with_all_fetched kept store)
-    (each_fetched (IsKeptPacket pattern) kept store
+    let kept : List Fetched = fetches_for pattern xs in
+    all_in (IsPacketFor pattern) (with_all_fetched kept store)
+    (each_fetched (IsPacketFor pattern) kept store
     (λ x i.
-    kept_came pattern x (in_all CameChecked kept x checked i) (in_filtered (is_fetched_kept pattern) xs x i).1)
-    (λ e i. in_all (IsKeptPacket pattern) store e are i))
+    kept_came pattern x (in_all IsCheckedFetch kept x checked i) (in_filtered (is_fetch_for pattern) xs x i).1)
+    (λ e i. in_all (IsPacketFor pattern) store e are i))
 
 -- ---- what came of jobs
 
 -- the part was wanted, and the packet passed its checks
 pub record CameSo (m : MirrorState) (x : Fetched) : Type 0 where
   pub part_wanted : is_wanted (fetch_plan m) x.part ≡ true
-  pub checked : CameChecked x
+  pub checked : IsCheckedFetch x
 
 pub passed_for : (want : WantedPart) (o : Option CheckedPart) → IfSome o (λ c. c.want ≡ want) → IfSome o IsChecked
     → IfSome (option_map (λ (c : CheckedPart). c.octets) o) (PassedFor want.part)

@@ -16,7 +16,7 @@ use Rattle.group_model.specs.Publications.{object_in, withdraws, published_entry
 use Rattle.group_model.specs.Member.{member_holds, holds_all, knows_withdrawn, is_listed}
 use Rattle.group_model.proofs.Lists.{all_in, each_all, same_filter, same_any}
 use Rattle.group_model.proofs.Parts.{IsIn, in_published, from_parts_in, in_parts_in}
-use Rattle.repo_mirror.specs.Asked.{is_kept, is_kept_post}
+use Rattle.repo_mirror.specs.Asked.{is_for, is_post_for}
 use Rattle.repo_mirror.specs.Mirrors.{Mirror, mirror_holds, as_member, IsSoundMirror, mirror_knows_withdrawn}
 use Rattle.repo_mirror.specs.Mirrors.{is_listed_by_mirror}
 use Rattle.repo_mirror.specs.MirrorLaws.{MirrorsList}
@@ -25,20 +25,20 @@ use Rattle.repo_mirror.proofs.Wants.{held_kept, kept_held}
 -- ---- what is kept of what was published
 
 pub kept_object : (pattern : Pattern) (p : ℕ) (o : Post) → is_some (offered o) ≡ true
-    → is_kept_post pattern p o ≡ accepts pattern p (unwrap_or (offered o) no_object).name
+    → is_post_for pattern p o ≡ accepts pattern p (unwrap_or (offered o) no_object).name
 kept_object pattern p (Offers object) h = refl
 kept_object pattern p (Withdraws seq) h = absurd (true≢false (sym h))
 
 kept_withdrawal : (pattern : Pattern) (p n : ℕ) (o : Post) → withdraws_number o n ≡ true
-    → is_kept_post pattern p o ≡ true
+    → is_post_for pattern p o ≡ true
 kept_withdrawal pattern p n (Offers object) h = absurd (true≢false (sym h))
 kept_withdrawal pattern p n (Withdraws seq) h = refl
 
 module _ (pattern : Pattern) (ls : Logs) (m : Mirror) (sound : IsSoundMirror pattern ls m) where
   -- what is kept of a part of a publication
   pub kept_of : (q : Publication) → IsIn ls q → (t : Part) → pair_of t ≡ pair_in q
-      → is_kept pattern ls (pair_of t) ≡ is_kept_post pattern q.publisher q.post
-  kept_of q is t same = ap (is_kept pattern ls) same ∙ ap (is_kept_post pattern q.publisher) (sym is.post)
+      → is_for pattern ls (pair_of t) ≡ is_post_for pattern q.publisher q.post
+  kept_of q is t same = ap (is_for pattern ls) same ∙ ap (is_post_for pattern q.publisher) (sym is.post)
 
   holds_record : (pair : Pair) (q : Publication) → In q (published ls)
       → (withdraws pair q && member_holds (as_member pattern m) (part_of (pair_in q) 0))
@@ -50,7 +50,7 @@ module _ (pattern : Pattern) (ls : Logs) (m : Mirror) (sound : IsSoundMirror pat
     go false w = refl
     go true w =
         let number : withdraws_number q.post pair.1 ≡ true = (and_parts _ (withdraws_number q.post pair.1) w).1 in
-        let kept : is_kept pattern ls (pair_in q) ≡ true =
+        let kept : is_for pattern ls (pair_in q) ≡ true =
         kept_of q (in_published ls q i) (part_of (pair_in q) 0) refl
         ∙ kept_withdrawal pattern q.publisher pair.1 q.post number in
         both_ways (member_holds (as_member pattern m) (part_of (pair_in q) 0)) (mirror_holds m (part_of (pair_in q) 0))
@@ -67,7 +67,7 @@ module _ (pattern : Pattern) (ls : Logs) (m : Mirror) (sound : IsSoundMirror pat
     abbrev accepted : Bool
     accepted = accepts pattern q.publisher (object_in q).name
 
-    asked_of : (t : Part) → In t (parts_in q) → is_kept pattern ls (pair_of t) ≡ accepted
+    asked_of : (t : Part) → In t (parts_in q) → is_for pattern ls (pair_of t) ≡ accepted
     asked_of t it =
         kept_of q (in_published ls q i) t (from_parts_in q t it).pair ∙ kept_object pattern q.publisher q.post object
 

@@ -12,7 +12,7 @@ use Rattle.sorted_lists.proofs.Members.{all_in, in_filtered}
 use Rattle.repo_plan.specs.declared.part.Part.{Part}
 use Rattle.repo_plan.specs.declared.shape.Shape.{Shape}
 use Rattle.repo_plan.specs.Parts.{Pair, pair_cmp, part_cmp, pair_of, part_of, record_of}
-use Rattle.repo_plan.specs.Plan.{holds, shape_of, can_be_asked, is_asked, knows}
+use Rattle.repo_plan.specs.Plan.{holds, shape_of, is_listed_part, may_be_asked_for, knows}
 use Rattle.repo_plan.specs.Sound.{PlanIsSound}
 use Rattle.repo_plan.proofs.Orders.{exact_parts, exact_pairs}
 use Rattle.repo_plan.proofs.Changes.{wanted_parts}
@@ -28,8 +28,8 @@ use Rattle.repo_member.specs.Outcomes.{outcome_of}
 use Rattle.repo_member.proofs.HolderTakes.{is_stored, still_there, from_there}
 use Rattle.repo_mirror.specs.MirrorState.{MirrorState, fetch_plan}
 use Rattle.repo_mirror.specs.MirrorOutcomes.{IsMirrorOutcome}
-use Rattle.repo_mirror.specs.Passing.{is_fetched_kept, that_are_kept, not_kept, passed_over, mirror_takes}
-use Rattle.repo_mirror.specs.KeptPackets.{CameChecked, AreKeptPackets}
+use Rattle.repo_mirror.specs.Passing.{is_fetch_for, fetches_for, not_kept, passed_over, mirror_takes}
+use Rattle.repo_mirror.specs.PacketsFor.{IsCheckedFetch, ArePacketsFor}
 use Rattle.repo_mirror.proofs.JobLemmas.{outcome_differs}
 use Rattle.repo_mirror.proofs.KeptLemmas.{CameSo, each_came, kept_packets}
 use Rattle.repo_mirror.proofs.SortedLemmas.{parts_in, passed_record, kept_apart}
@@ -41,9 +41,9 @@ pub record IsReached (m : MirrorState) : Type 0 where
   pub in_order : Rises part_cmp (keys m.store)
   pub recorded : (t : Part) → is_stored m.store t ≡ true → is_stored m.store (record_of t) ≡ true
   pub gone : (t : Part) → contains pair_cmp m.passed (pair_of t) ≡ true → is_stored m.store t ≡ false
-  pub packets : AreKeptPackets m.pattern m.store
+  pub packets : ArePacketsFor m.pattern m.store
 
-pub sound_reached : (m : MirrorState) → PlanIsSound (fetch_plan m) → AreKeptPackets m.pattern m.store → IsReached m
+pub sound_reached : (m : MirrorState) → PlanIsSound (fetch_plan m) → ArePacketsFor m.pattern m.store → IsReached m
 sound_reached m s are = record {
   in_order = s.in_order.held;
   recorded = λ t h. (s.held t h).with_record;
@@ -59,15 +59,15 @@ pub shape_is : (m : MirrorState) (pair : Pair) → Rises part_cmp (keys m.store)
 shape_is m pair r = shapes_value m.store pair r
 
 -- a part that could be asked for is a record, or its record is stored
-asked_so : (m : MirrorState) (t : Part) → Rises part_cmp (keys m.store) → is_asked (fetch_plan m) t ≡ true
+asked_so : (m : MirrorState) (t : Part) → Rises part_cmp (keys m.store) → may_be_asked_for (fetch_plan m) t ≡ true
     → (t.part ≡ 0) ⊎ (is_stored m.store (record_of t) ≡ true)
 asked_so m t r asked =
     go (stored_at m.store (pair_of t) 0) (contains-value m.store (record_of t))
-    (ap (λ (o : Option Shape). can_be_asked (keys m.store) o t) (sym (shape_is m (pair_of t) r))
+    (ap (λ (o : Option Shape). is_listed_part (keys m.store) o t) (sym (shape_is m (pair_of t) r))
     ∙ (and_parts (knows (fetch_plan m) (pair_of t))
-    (can_be_asked (keys m.store) (shape_of (fetch_plan m) (pair_of t)) t) asked).1) where
+    (is_listed_part (keys m.store) (shape_of (fetch_plan m) (pair_of t)) t) asked).1) where
       go : (o : Option (List ℕ)) → is_stored m.store (record_of t) ≡ is_some o
-          → can_be_asked (keys m.store) (option_map shape_stated (option_and_then stated_in o)) t ≡ true
+          → is_listed_part (keys m.store) (option_map shape_stated (option_and_then stated_in o)) t ≡ true
           → (t.part ≡ 0) ⊎ (is_stored m.store (record_of t) ≡ true)
       go None e h = inl (eqb-true t.part 0 h)
       go (Some octets) e h = inr e
@@ -89,7 +89,7 @@ rises_fetched (x ∷ xs) es r = rises_fetched xs (with_fetched x.part x.packet e
 module _ (m : MirrorState) (xs : List Fetched) (r : IsReached m) (each : (x : Fetched) → In x xs → CameSo m x)
     (apart : PartsDiffer (parts_in m.pattern xs)) where
   abbrev kept : List Fetched
-  kept = that_are_kept m.pattern xs
+  kept = fetches_for m.pattern xs
 
   abbrev next : MirrorState
   next = mirror_takes xs m
@@ -105,17 +105,17 @@ module _ (m : MirrorState) (xs : List Fetched) (r : IsReached m) (each : (x : Fe
         | inr none ↦ absurd (true≢false (sym none))
       ] in
       let x = from_map (λ (y : Fetched). pair_of y.part)
-      (filter (λ y. not (is_fetched_kept m.pattern y)) xs) (pair_of t)
+      (filter (λ y. not (is_fetch_for m.pattern y)) xs) (pair_of t)
       (in_contains exact_pairs (not_kept m.pattern xs) (pair_of t) among) in
-      let f = in_filtered (λ y. not (is_fetched_kept m.pattern y)) xs x.0 x.1 in
-      let zero = passed_record m.pattern x.0 (not-true (is_fetched_kept m.pattern x.0) f.1) in
+      let f = in_filtered (λ y. not (is_fetch_for m.pattern y)) xs x.0 x.1 in
+      let zero = passed_record m.pattern x.0 (not-true (is_fetch_for m.pattern x.0) f.1) in
       let same : record_of t ≡ x.0.part = (λ i. part_of (x.2 i) (sym zero i)) in
       ap (is_stored m.store) same
       ∙ (wanted_parts (fetch_plan m) x.0.part (each x.0 f.0).part_wanted).not_held
 
   -- what is kept newly
   in_kept : (x : Fetched) → In x kept → In x xs
-  in_kept x i = (in_filtered (is_fetched_kept m.pattern) xs x i).0
+  in_kept x i = (in_filtered (is_fetch_for m.pattern) xs x i).0
 
   new_asked : (x : Fetched) → In x kept → (x.part.part ≡ 0) ⊎ (is_stored m.store (record_of x.part) ≡ true)
   new_asked x i =
@@ -178,7 +178,8 @@ module _ (m : MirrorState) (xs : List Fetched) (r : IsReached m) (each : (x : Fe
     recorded = recorded_then;
     gone = gone_then;
     packets =
-        kept_packets m.pattern xs m.store (all_in CameChecked kept (λ x i. (each x (in_kept x i)).checked)) r.packets;
+        kept_packets m.pattern xs m.store
+        (all_in IsCheckedFetch kept (λ x i. (each x (in_kept x i)).checked)) r.packets;
   }
 
 pub reached_takes : (m : MirrorState) (jobs : List Job) (parts : List (Option CheckedPart)) (ns : List ℕ)

@@ -20,7 +20,8 @@ use Rattle.group_model.specs.Sound.{IsKnown}
 use Rattle.group_model.proofs.Parents.{parent_of_parent}
 use Rattle.repo_mirror.specs.Mirrors.{Mirror, mirror_holds, IsWantedByMirror, IsKeptSoundly, IsPassedSoundly}
 use Rattle.repo_mirror.specs.Mirrors.{IsSoundMirror, mirror_gains, mirror_gains_all, ComeInTurn, path_to, unless_held}
-use Rattle.repo_mirror.specs.MirrorLaws.{GainsPart, HasComeToRest, SettledHoldThose, IsGathering, GatheringGainsThose}
+use Rattle.repo_mirror.specs.MirrorLaws.{GainsPart, WantsNothingHeld, SettledHoldThose, IsGathering}
+use Rattle.repo_mirror.specs.MirrorLaws.{GatheringGainsThose}
 use Rattle.repo_mirror.proofs.Gains.{gain, gains_known}
 
 -- what one holds the other does
@@ -60,7 +61,7 @@ module _ (pattern : Pattern) (ls : Logs) (members : List Member) where
     not_held = free;
   }
 
-  all_held : (last : Mirror) → HasComeToRest pattern ls members last → (any : List Part) (m : Mirror)
+  all_held : (last : Mirror) → WantsNothingHeld pattern ls members last → (any : List Part) (m : Mirror)
       → IsSoundMirror pattern ls m → m.known ≡ last.known → HoldsLess m last → ComeInTurn pattern ls members any m
       → (t : Part) → In t any → mirror_holds last t ≡ true
   all_held last rest [] m s same less c t i = absurd i
@@ -114,8 +115,8 @@ module _ (pattern : Pattern) (ls : Logs) (members : List Member) (m new : Mirror
       record { known = k.0; publisher = k.1; part = inl z; not_held = free }
 
   -- what is held in the end, and isn't a record, is kept
-  after_kept : (t : Part) → (t.part == 0) ≡ false → mirror_holds new t ≡ true → contains part_cmp new.kept t ≡ true
-  after_kept t s h =
+  after_stored : (t : Part) → (t.part == 0) ≡ false → mirror_holds new t ≡ true → contains part_cmp new.kept t ≡ true
+  after_stored t s h =
       elim (or_cases (contains part_cmp new.kept t) (t.part == 0 && contains pair_cmp new.passed (pair_of t)) h) [
         | inl k ↦ k
         | inr p ↦
@@ -128,7 +129,7 @@ module _ (pattern : Pattern) (ls : Logs) (members : List Member) (m new : Mirror
       → IsWantedByMirror pattern ls a t
   part_wanted t s h a same listed free =
       let k : IsKnown m.known (pair_of t) × (is_publisher pattern.publisher t.publisher ≡ true) = of_known t h in
-      let kept : IsKeptSoundly pattern ls new t = g.sound.kept t (after_kept t s h) in
+      let kept : IsKeptSoundly pattern ls new t = g.sound.kept t (after_stored t s h) in
       let above = eqb-false t.part 0 s in
       record {
         known = subst (λ (v : List ℕ). IsKnown v (pair_of t)) (sym same) k.0;
@@ -163,7 +164,7 @@ module _ (pattern : Pattern) (ls : Logs) (members : List Member) (m new : Mirror
     lists_it = parent (shape_at ls (pair_of t)) t
 
     kept_last : IsKeptSoundly pattern ls new t
-    kept_last = g.sound.kept t (after_kept t s h)
+    kept_last = g.sound.kept t (after_stored t s h)
 
     record_new : mirror_holds new (record_of t) ≡ true
     record_new =

@@ -10,8 +10,8 @@ use Rattle.sorted_lists.proofs.Lookups.{there_value}
 use Rattle.sorted_lists.proofs.Members.{in_all}
 use Rattle.repo_plan.specs.declared.part.Part.{Part}
 use Rattle.repo_plan.specs.declared.shape.Shape.{Shape}
-use Rattle.repo_plan.specs.Parts.{pair_cmp, pair_of, record_of, parent, parts_after}
-use Rattle.repo_plan.specs.Plan.{holds, hides, shape_of, can_be_asked, is_asked, knows, is_wanted}
+use Rattle.repo_plan.specs.Parts.{pair_cmp, pair_of, record_of, parent, last_part}
+use Rattle.repo_plan.specs.Plan.{holds, hides, shape_of, is_listed_part, may_be_asked_for, knows, is_wanted}
 use Rattle.repo_plan.proofs.Orders.{exact_parts}
 use Rattle.repo_plan.proofs.Changes.{wanted_parts}
 use Rattle.repo_object.specs.Publication.{Listed, RecordSays, shape_stated}
@@ -25,7 +25,7 @@ use Rattle.repo_mirror.specs.Mirrors.{mirror_holds}
 use Rattle.repo_mirror.proofs.Wants.{asked_known, known_asked}
 use Rattle.repo_member.proofs.HolderTakes.{is_stored}
 use Rattle.repo_mirror.specs.MirrorState.{MirrorState, fetch_plan}
-use Rattle.repo_mirror.specs.KeptPackets.{IsKeptPacket}
+use Rattle.repo_mirror.specs.PacketsFor.{IsPacketFor}
 use Rattle.repo_mirror.specs.ConsistentMirrors.{mirror_in_group}
 use Rattle.repo_mirror.specs.WantedAlone.{IsPartListed, IsWantedAlone, WantsThose}
 use Rattle.repo_mirror.proofs.AcceptedLemmas.{record_accepted}
@@ -36,7 +36,7 @@ module _ (m : MirrorState) (r : IsReached m) (t : Part) where
   passed = contains pair_cmp m.passed (pair_of t)
 
   abbrev asked : Option Shape → Bool
-  asked shape = can_be_asked (keys m.store) shape t
+  asked shape = is_listed_part (keys m.store) shape t
 
   -- ---- what the plan wants is to be wanted
 
@@ -48,7 +48,7 @@ module _ (m : MirrorState) (r : IsReached m) (t : Part) where
       record { from_one = leb-true 1 t.seq both.0; to_known = leb-true t.seq last both.1 }
 
   abbrev counted : Listed → Bool
-  counted l = nat_le t.part (parts_after (listed_shape l)) && is_stored m.store (parent (listed_shape l) t)
+  counted l = nat_le t.part (last_part (listed_shape l)) && is_stored m.store (parent (listed_shape l) t)
 
   -- a part after an object's record
   listed_so : (octets : List ℕ) (l : Listed) → stored_at m.store (pair_of t) 0 ≡ Some octets
@@ -58,17 +58,17 @@ module _ (m : MirrorState) (r : IsReached m) (t : Part) where
     | inl zero ↦ absurd (true≢false (sym zero ∙ after))
     | inr both ↦
         let up : Part = parent (listed_shape l) t in
-        let parts = and_parts (nat_le t.part (parts_after (listed_shape l))) (is_stored m.store up) both in
+        let parts = and_parts (nat_le t.part (last_part (listed_shape l))) (is_stored m.store up) both in
         record {
           listing = l;
           listed = ap (option_and_then listing_in) stored ∙ ap (option_and_then object_stated) stated;
           from_one = positive t.part after;
-          counted = leb-true t.part (parts_after (listed_shape l)) parts.0;
+          counted = leb-true t.part (last_part (listed_shape l)) parts.0;
           with_parent =
               or_left (is_stored m.store up) (up.part == 0 && contains pair_cmp m.passed (pair_of up)) parts.1;
           accepted =
               record_accepted m.pattern (pair_of t) octets l stated
-              (in_all (IsKeptPacket m.pattern) m.store (record_of t, octets) r.packets
+              (in_all (IsPacketFor m.pattern) m.store (record_of t, octets) r.packets
               (there_value exact_parts m.store (record_of t) octets stored)).kept;
         }
   ] where
@@ -156,24 +156,24 @@ module _ (m : MirrorState) (r : IsReached m) (t : Part) where
   asked_too w = elim w.part [
     | inl zero ↦ record_asked (shape_of (fetch_plan m) (pair_of t)) zero
     | inr s ↦
-        ap asked (shape_is m (pair_of t) r.in_order ∙ reported s.listing s.listed)
+        ap asked (shape_is m (pair_of t) r.in_order ∙ received s.listing s.listed)
         ∙ or_right (t.part == 0) (counted s.listing)
-        (and_from (nat_le t.part (parts_after (listed_shape s.listing)))
+        (and_from (nat_le t.part (last_part (listed_shape s.listing)))
         (is_stored m.store (parent (listed_shape s.listing) t)) (below s.counted)
         (held_stored (parent (listed_shape s.listing) t) (listing_free s.listing s.listed) s.with_parent))
   ] where
     record_asked : (o : Option Shape) → t.part ≡ 0 → asked o ≡ true
     record_asked None zero = eq-eqb t.part 0 zero
     record_asked (Some shape) zero =
-        or_left (t.part == 0) (nat_le t.part (parts_after shape) && is_stored m.store (parent shape t))
+        or_left (t.part == 0) (nat_le t.part (last_part shape) && is_stored m.store (parent shape t))
         (eq-eqb t.part 0 zero)
 
     below : {n : ℕ} → t.part ≤ n → nat_le t.part n ≡ true
     below h = grind arith
 
-    reported : (l : Listed) → listing_at m.store (pair_of t) ≡ Some l
+    received : (l : Listed) → listing_at m.store (pair_of t) ≡ Some l
         → option_map shape_stated (option_and_then stated_in (stored_at m.store (pair_of t) 0)) ≡ Some (listed_shape l)
-    reported l h = stored (stored_at m.store (pair_of t) 0) h where
+    received l h = stored (stored_at m.store (pair_of t) 0) h where
       stated : (s : Option RecordSays) → option_and_then object_stated s ≡ Some l
           → option_map shape_stated s ≡ Some (listed_shape l)
       stated None k = absurd cc
@@ -190,7 +190,8 @@ module _ (m : MirrorState) (r : IsReached m) (t : Part) where
   wanted_too w =
       let known = known_asked m.pattern.publisher m.known (pair_of t) w.publisher w.known in
       let free = (or_parts (is_stored m.store t) (t.part == 0 && passed) w.not_held).0 in
-      and_from (is_asked (fetch_plan m) t) (not (holds (fetch_plan m) t) && not (hides (fetch_plan m) (pair_of t)))
+      and_from (may_be_asked_for (fetch_plan m) t)
+      (not (holds (fetch_plan m) t) && not (hides (fetch_plan m) (pair_of t)))
       (and_from (knows (fetch_plan m) (pair_of t)) (asked (shape_of (fetch_plan m) (pair_of t))) (knows_so known)
       (asked_too w))
       (and_from (not (holds (fetch_plan m) t)) (not (hides (fetch_plan m) (pair_of t))) (ap not free)

@@ -13,7 +13,7 @@ use Rattle.group_model.specs.Publications.{Logs, shape_at}
 use Rattle.group_model.specs.Sound.{IsKnown}
 use Rattle.group_model.specs.Wanted.{IsWantedPart}
 use Rattle.group_model.proofs.Wants.{tests_those}
-use Rattle.repo_mirror.specs.Asked.{asked_numbers, is_kept}
+use Rattle.repo_mirror.specs.Asked.{asked_numbers, is_for}
 use Rattle.repo_mirror.specs.Mirrors.{Mirror, mirror_holds, IsWantedByMirror, as_member, IsSoundMirror}
 use Rattle.repo_mirror.specs.MirrorLaws.{MirrorsWantThose}
 
@@ -61,13 +61,13 @@ known_asked asked known pair e k =
 
 module _ (pattern : Pattern) (ls : Logs) (m : Mirror) (sound : IsSoundMirror pattern ls m) where
   -- what is asked for was not passed over
-  not_passed : (pair : Pair) → is_kept pattern ls pair ≡ true → contains pair_cmp m.passed pair ≡ false
+  not_passed : (pair : Pair) → is_for pattern ls pair ≡ true → contains pair_cmp m.passed pair ≡ false
   not_passed pair a =
       false_from_ne_true (contains pair_cmp m.passed pair)
       (λ h. true≢false (sym a ∙ (sound.passed pair h).not_accepted))
 
   -- what is held of it is kept
-  pub held_kept : (t : Part) → is_kept pattern ls (pair_of t) ≡ true → mirror_holds m t ≡ true
+  pub held_kept : (t : Part) → is_for pattern ls (pair_of t) ≡ true → mirror_holds m t ≡ true
       → contains part_cmp m.kept t ≡ true
   held_kept t a h =
       elim (or_cases (contains part_cmp m.kept t) (t.part == 0 && contains pair_cmp m.passed (pair_of t)) h) [

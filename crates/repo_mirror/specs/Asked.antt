@@ -13,10 +13,10 @@ asked_numbers asked p [] = []
 asked_numbers asked p (n ∷ ns) = (if is_publisher asked p then n else 0) ∷ asked_numbers asked (p + 1) ns
 
 -- What was published by that publisher is kept: an object that the pattern is for, and each withdrawal.
-abbrev pub is_kept_post : Pattern → ℕ → Post → Bool
-is_kept_post pattern p (Offers object) = accepts pattern p object.name
-is_kept_post pattern p (Withdraws seq) = true
+abbrev pub is_post_for : Pattern → ℕ → Post → Bool
+is_post_for pattern p (Offers object) = accepts pattern p object.name
+is_post_for pattern p (Withdraws seq) = true
 
 -- What was published under that publisher and number is.
-abbrev pub is_kept : Pattern → Logs → Pair → Bool
-is_kept pattern logs pair = is_kept_post pattern pair.0 (post_at logs pair)
+abbrev pub is_for : Pattern → Logs → Pair → Bool
+is_for pattern logs pair = is_post_for pattern pair.0 (post_at logs pair)

@@ -15,9 +15,9 @@ use Rattle.group_model.specs.Sound.{IsConsistentVector}
 use Rattle.repo_mirror.specs.Mirrors.{Mirror, IsWantedByMirror, IsSoundMirror, mirror_plan, mirror_catalogue}
 use Rattle.repo_mirror.specs.Mirrors.{mirror_holds}
 use Rattle.repo_member.specs.Groups.{GroupKeys}
-use Rattle.repo_member.specs.InGroup.{AreLogs, StoresConsistently, CameConsistently, GrowInto, that_came}
+use Rattle.repo_member.specs.InGroup.{AreLogs, StoresConsistently, IsConsistentFetch, GrowInto, parts_fetched}
 use Rattle.repo_member.specs.ConsistentHolders.{IsConsistentHolder, member_with}
-use Rattle.repo_mirror.specs.MirrorState.{MirrorState, mirror_opening, mirror_holdings, fetch_plan}
+use Rattle.repo_mirror.specs.MirrorState.{MirrorState, initial_mirror, mirror_holdings, fetch_plan}
 use Rattle.repo_mirror.specs.Passing.{mirror_takes}
 
 -- The mirror as its group has it: it keeps the parts whose packets it stores.
@@ -59,13 +59,13 @@ MirrorsAreHolders = (g : GroupKeys) (logs : Logs) (m : MirrorState) → IsConsis
 -- A mirror begins so.
 abbrev pub MirrorsBeginConsistent : Type 0
 MirrorsBeginConsistent =
-    (g : GroupKeys) (logs : Logs) (pattern : Pattern) → IsConsistentMirror g logs (mirror_opening pattern (length logs))
+    (g : GroupKeys) (logs : Logs) (pattern : Pattern) → IsConsistentMirror g logs (initial_mirror pattern (length logs))
 
 -- It stays so where it hears a vector that reports no publication that there isn't.
 abbrev pub MirrorsLearnConsistent : Type 0
-MirrorsLearnConsistent = (g : GroupKeys) (logs : Logs) (m : MirrorState) (reported : List ℕ)
-    → IsConsistentVector logs reported
-    → IsConsistentMirror g logs m → IsConsistentMirror g logs (record m { known = join m.known reported })
+MirrorsLearnConsistent = (g : GroupKeys) (logs : Logs) (m : MirrorState) (received : List ℕ)
+    → IsConsistentVector logs received
+    → IsConsistentMirror g logs m → IsConsistentMirror g logs (record m { known = join m.known received })
 
 -- Others may publish more.
 abbrev pub MirrorsGrowConsistent : Type 0
@@ -73,17 +73,17 @@ MirrorsGrowConsistent = (g : GroupKeys) (logs later : Logs) (m : MirrorState) �
     → length later ≡ length logs → IsConsistentMirror g logs m → IsConsistentMirror g later m
 
 -- The outcome of a fetch may be taken, of wanted parts, where each packet that came is that of its part.
-pub record CameForMirror (g : GroupKeys) (logs : Logs) (m : MirrorState) (x : Fetched) : Type 0 where
+pub record FetchForMirror (g : GroupKeys) (logs : Logs) (m : MirrorState) (x : Fetched) : Type 0 where
   pub part_wanted : is_wanted (fetch_plan m) x.part ≡ true
-  pub consistent : CameConsistently g logs x.part x.packet
+  pub consistent : IsConsistentFetch g logs x.part x.packet
 
 -- Then just the parts that came are held too: the records of objects that the pattern isn't for by passing them over.
 pub record TakesConsistently (g : GroupKeys) (logs : Logs) (xs : List Fetched) (m : MirrorState) : Type 0 where
   pub stays : IsConsistentMirror g logs (mirror_takes xs m)
   pub held : (u : Part) → mirror_holds (mirror_in_group (mirror_takes xs m)) u
-      ≡ (contains part_cmp (that_came xs) u || mirror_holds (mirror_in_group m) u)
+      ≡ (contains part_cmp (parts_fetched xs) u || mirror_holds (mirror_in_group m) u)
 
 -- A consistent mirror that takes what came stays consistent, and holds the parts that came too.
 abbrev pub MirrorsTakeConsistent : Type 0
 MirrorsTakeConsistent = (g : GroupKeys) (logs : Logs) (m : MirrorState) (xs : List Fetched) → AreLogs g logs
-    → IsConsistentMirror g logs m → All (CameForMirror g logs m) xs → TakesConsistently g logs xs m
+    → IsConsistentMirror g logs m → All (FetchForMirror g logs m) xs → TakesConsistently g logs xs m

@@ -22,7 +22,7 @@ pub mod MirrorLaws
 pub mod MirrorState
 pub mod MirrorFields
 pub mod Passing
-pub mod KeptPackets
+pub mod PacketsFor
 pub mod MirrorOutcomes
 pub mod ConsistentMirrors
 pub mod WantedAlone

@@ -11,7 +11,7 @@ use Rattle.repo_holdings.specs.Listed.{member_catalogue}
 use Rattle.repo_watch.specs.declared.pattern.Pattern.{Pattern}
 use Rattle.repo_mirror.specs.Mirrors.{is_entry_accepted}
 use Rattle.repo_member.specs.Outcomes.{outcome_of}
-use Rattle.repo_mirror.specs.MirrorState.{MirrorState, mirror_opening}
+use Rattle.repo_mirror.specs.MirrorState.{MirrorState, initial_mirror}
 use Rattle.repo_mirror.specs.Passing.{mirror_takes}
 use Rattle.repo_mirror.specs.MirrorOutcomes.{IsMirrorOutcome}
 
@@ -23,7 +23,7 @@ pub data MirrorCall : Type 0 where
 
 -- The mirror after a call.
 abbrev pub after_mirror_call : MirrorCall → MirrorState → MirrorState
-after_mirror_call (Learn reported) m = record m { known = join m.known reported }
+after_mirror_call (Learn received) m = record m { known = join m.known received }
 after_mirror_call (TakeOutcome jobs parts attempts) m = mirror_takes (outcome_of jobs parts attempts) m
 
 -- The mirror after a list of calls.
@@ -33,7 +33,7 @@ after_mirror_calls (call ∷ calls) m = after_mirror_calls calls (after_mirror_c
 
 -- The conditions of a call, but for that which keeps lists of jobs short. A checked part passed its checks by its type.
 abbrev pub IsAllowedMirrorCall : MirrorState → MirrorCall → Type 0
-IsAllowedMirrorCall m (Learn reported) = length reported ≡ length m.known
+IsAllowedMirrorCall m (Learn received) = length received ≡ length m.known
 IsAllowedMirrorCall m (TakeOutcome jobs parts attempts) =
     IsMirrorOutcome m jobs parts attempts × All (λ part. IfSome part IsChecked) parts
 
@@ -46,7 +46,7 @@ AreAllowedMirrorCalls m (call ∷ calls) =
 -- It holds of every mirror, from its beginning on and after any calls.
 abbrev pub InEveryMirror : (MirrorState → Type 0) → Type 0
 InEveryMirror P = (pattern : Pattern) (members : ℕ) (calls : List MirrorCall) →
-    let begun = mirror_opening pattern members in
+    let begun = initial_mirror pattern members in
     AreAllowedMirrorCalls begun calls → P (after_mirror_calls calls begun)
 
 -- ---- what holds of every mirror
@@ -74,7 +74,7 @@ PassedStays = (calls : List MirrorCall) (m : MirrorState) (pair : Pair) → cont
 -- The vectors that it heard in calls, in order.
 abbrev pub vectors_learnt : List MirrorCall → List (List ℕ)
 vectors_learnt [] = []
-vectors_learnt (Learn reported ∷ calls) = reported ∷ vectors_learnt calls
+vectors_learnt (Learn received ∷ calls) = received ∷ vectors_learnt calls
 vectors_learnt (TakeOutcome jobs parts attempts ∷ calls) = vectors_learnt calls
 
 -- It knows the join of what it knew and of what it heard.

@@ -4,7 +4,7 @@ use Rattle.repo_plan.specs.Plan.{no_claims}
 use Rattle.repo_mirror.specs.declared.mirror.Mirror.TheInside.{Inside}
 use Rattle.repo_mirror.specs.MirrorState.{MirrorState}
 use Rattle.repo_mirror.specs.Asked.{asked_numbers}
-use Rattle.repo_mirror.specs.KeptPackets.{AreKeptPackets}
+use Rattle.repo_mirror.specs.PacketsFor.{ArePacketsFor}
 
 -- What the fields say.
 abbrev pub mirror_state : Inside → MirrorState
@@ -22,4 +22,4 @@ pub record IsMirror (m : Inside) : Type 0 where
   pub few : length m.vector ≤ 16
   pub known : m.held.known ≡ asked_numbers m.pattern.publisher 0 m.vector
   pub claims : m.held.claims ≡ no_claims
-  pub packets : AreKeptPackets m.pattern m.held.store
+  pub packets : ArePacketsFor m.pattern m.held.store

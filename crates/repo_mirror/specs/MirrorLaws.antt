@@ -12,7 +12,7 @@ use Rattle.group_model.specs.Member.{Member, catalogue}
 use Rattle.group_model.specs.World.{World, logs, someone_holds}
 use Rattle.group_model.specs.Steps.{settled_vector}
 use Rattle.group_model.specs.Sound.{IsSoundGroup, IsConsistentVector}
-use Rattle.group_model.specs.Laws.{NothingHidden}
+use Rattle.group_model.specs.Laws.{NothingDeleted}
 use Rattle.repo_mirror.specs.Mirrors.{Mirror, mirror_holds, IsWantedByMirror, as_member, mirror_plan, IsSoundMirror}
 use Rattle.repo_mirror.specs.Mirrors.{mirror_gains, mirror_gains_all, ComeInTurn, path_to, mirror_catalogue}
 use Rattle.repo_mirror.specs.Mirrors.{is_entry_accepted}
@@ -38,15 +38,15 @@ MirrorsList = (pattern : Pattern) (logs : Logs) (m : Mirror) → IsSoundMirror p
     → catalogue logs (as_member pattern m) ≡ mirror_catalogue pattern logs m
 
 -- What it still wants nobody holds.
-abbrev pub HasComeToRest : Pattern → Logs → List Member → Mirror → Type 0
-HasComeToRest pattern logs members m =
+abbrev pub WantsNothingHeld : Pattern → Logs → List Member → Mirror → Type 0
+WantsNothingHeld pattern logs members m =
     (t : Part) → IsWantedByMirror pattern logs m t → someone_holds members t ≡ false
 
 -- Whatever can come, in whatever order, is held in the end.
 abbrev pub SettledHoldThose : Type 0
 SettledHoldThose = (pattern : Pattern) (logs : Logs) (members : List Member) (m : Mirror) (came : List Part)
     → IsSoundMirror pattern logs m → ComeInTurn pattern logs members came m
-    → HasComeToRest pattern logs members (mirror_gains_all pattern logs came m)
+    → WantsNothingHeld pattern logs members (mirror_gains_all pattern logs came m)
     → (any : List Part) → ComeInTurn pattern logs members any m
     → (t : Part) → contains part_cmp any t ≡ true
     → mirror_holds (mirror_gains_all pattern logs came m) t ≡ true
@@ -63,7 +63,7 @@ pub record IsGathering (pattern : Pattern) (logs : Logs) (members : List Member)
 pub record GainsThose (pattern : Pattern) (logs : Logs) (members : List Member) (m new : Mirror) : Type 0 where
   pub only : (t : Part) → mirror_holds new t ≡ true → mirror_holds m t ≡ false
       → ComeInTurn pattern logs members (path_to logs m t) m
-  pub all : HasComeToRest pattern logs members new → (any : List Part) → ComeInTurn pattern logs members any m
+  pub all : WantsNothingHeld pattern logs members new → (any : List Part) → ComeInTurn pattern logs members any m
       → (t : Part) → contains part_cmp any t ≡ true → mirror_holds new t ≡ true
 
 -- A sound mirror that is gathering has gained those parts.
@@ -84,9 +84,10 @@ abbrev pub MirrorsLearnAll : Type 0
 MirrorsLearnAll = (w : World) (m : Mirror) → IsSoundGroup w → IsConsistentVector (logs w) m.known
     → KnowsAll w (learns_all w m)
 
--- A mirror that knows all and has come to rest lists, where no member hides anything, just what its pattern accepts of
+-- A mirror that knows all and wants nothing that anyone holds lists, where no member hides anything, just what its
+-- pattern accepts of
 -- the join of all publications.
 abbrev pub MirrorsJoin : Type 0
-MirrorsJoin = (pattern : Pattern) (w : World) (m : Mirror) → IsSoundGroup w → NothingHidden w
-    → IsSoundMirror pattern (logs w) m → KnowsAll w m → HasComeToRest pattern (logs w) w.members m
+MirrorsJoin = (pattern : Pattern) (w : World) (m : Mirror) → IsSoundGroup w → NothingDeleted w
+    → IsSoundMirror pattern (logs w) m → KnowsAll w m → WantsNothingHeld pattern (logs w) w.members m
     → mirror_catalogue pattern (logs w) m ≡ filter (is_entry_accepted pattern) (join_of (logs w))

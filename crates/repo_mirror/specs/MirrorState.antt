@@ -17,8 +17,8 @@ pub record MirrorState : Type 0 where
   pub attempts : List (Part × ℕ)  -- of the parts that it didn't pass over, in order, without 0
 
 -- A mirror of a group of so many members, which knows of nothing.
-abbrev pub mirror_opening : Pattern → ℕ → MirrorState
-mirror_opening pattern members = record {
+abbrev pub initial_mirror : Pattern → ℕ → MirrorState
+initial_mirror pattern members = record {
   pattern = pattern;
   known = replicate members 0;
   store = [];

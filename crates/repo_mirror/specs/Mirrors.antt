@@ -14,7 +14,7 @@ use Rattle.group_model.specs.Publications.{object_in, withdraws, published_entry
 use Rattle.group_model.specs.Member.{Member, plan_of}
 use Rattle.group_model.specs.World.{no_member, someone_holds}
 use Rattle.group_model.specs.Sound.{IsKnown}
-use Rattle.repo_mirror.specs.Asked.{asked_numbers, is_kept}
+use Rattle.repo_mirror.specs.Asked.{asked_numbers, is_for}
 
 -- What a mirror has, besides its pattern.
 pub record Mirror : Type 0 where
@@ -36,7 +36,7 @@ module _ (pattern : Pattern) where
     pub from_one : 1 ≤ t.part
     pub counted : t.part ≤ count logs (pair_of t)
     pub with_parent : mirror_holds m (parent (shape_at logs (pair_of t)) t) ≡ true
-    pub accepted : is_kept pattern logs (pair_of t) ≡ true
+    pub accepted : is_for pattern logs (pair_of t) ≡ true
 
   -- A record, or such a part, of a known publication of a publisher that is asked, and that isn't held.
   pub record IsWantedByMirror (logs : Logs) (m : Mirror) (t : Part) : Type 0 where
@@ -70,14 +70,14 @@ module _ (pattern : Pattern) where
     pub counted : t.part ≤ count logs (pair_of t)
     pub with_record : contains part_cmp m.kept (record_of t) ≡ true
     pub with_parent : contains part_cmp m.kept (parent (shape_at logs (pair_of t)) t) ≡ true
-    pub accepted : is_kept pattern logs (pair_of t) ≡ true
+    pub accepted : is_for pattern logs (pair_of t) ≡ true
 
   -- A publication that it passed over is a known one of a publisher that is asked, and an object that the pattern isn't
   -- for.
   pub record IsPassedSoundly (logs : Logs) (m : Mirror) (pair : Pair) : Type 0 where
     pub known : IsKnown m.known pair
     pub publisher : is_publisher pattern.publisher pair.0 ≡ true
-    pub not_accepted : is_kept pattern logs pair ≡ false
+    pub not_accepted : is_for pattern logs pair ≡ false
 
   -- Both hold of all that the mirror keeps and has passed over.
   pub record IsSoundMirror (logs : Logs) (m : Mirror) : Type 0 where
@@ -89,7 +89,7 @@ module _ (pattern : Pattern) where
   -- The mirror after a part came.
   abbrev pub mirror_gains : Logs → Part → Mirror → Mirror
   mirror_gains logs t m =
-      if is_kept pattern logs (pair_of t)
+      if is_for pattern logs (pair_of t)
       then record m { kept = insert_key part_cmp t m.kept }
       else record m { passed = insert_key pair_cmp (pair_of t) m.passed }
 

@@ -4,7 +4,7 @@ use Rattle.std.specs.Prelude.{option_map}
 use Rattle.sorted_lists.specs.SortedList.{insert_keys}
 use Rattle.repo_plan.specs.declared.part.Part.{Part}
 use Rattle.repo_plan.specs.Parts.{Pair, pair_cmp, pair_of}
-use Rattle.repo_plan.specs.Plan.{PlanState, holds, is_asked}
+use Rattle.repo_plan.specs.Plan.{PlanState, holds, may_be_asked_for}
 use Rattle.repo_holdings.specs.declared.record_summary.RecordSummary.{RecordSummary}
 use Rattle.repo_holdings.specs.declared.record_summary.RecordSummary.TheVariants.{Object, Withdrawal}
 use Rattle.repo_holdings.specs.Gaining.{summary_in}
@@ -15,26 +15,26 @@ use Rattle.repo_watch.specs.Patterns.{accepts}
 use Rattle.repo_mirror.specs.MirrorState.{MirrorState}
 
 -- What a packet of that publisher tells is kept, unless it is the record of an object that the pattern isn't for.
-abbrev pub is_reported_kept : Pattern → ℕ → Option RecordSummary → Bool
-is_reported_kept pattern p None = true
-is_reported_kept pattern p (Some (Object shape name)) = accepts pattern p name
-is_reported_kept pattern p (Some (Withdrawal seq)) = true
+abbrev pub is_summary_for : Pattern → ℕ → Option RecordSummary → Bool
+is_summary_for pattern p None = true
+is_summary_for pattern p (Some (Object shape name)) = accepts pattern p name
+is_summary_for pattern p (Some (Withdrawal seq)) = true
 
 -- So is a packet that came for a part, by what it tells.
-abbrev pub is_packet_kept : Pattern → Part → List ℕ → Bool
-is_packet_kept pattern t octets = is_reported_kept pattern t.publisher (summary_in t octets)
+abbrev pub is_packet_for : Pattern → Part → List ℕ → Bool
+is_packet_for pattern t octets = is_summary_for pattern t.publisher (summary_in t octets)
 
 -- What came of a part is kept: such a packet, or none.
-abbrev pub is_fetched_kept : Pattern → Fetched → Bool
-is_fetched_kept pattern x = unwrap_or (option_map (is_packet_kept pattern x.part) x.packet) true
+abbrev pub is_fetch_for : Pattern → Fetched → Bool
+is_fetch_for pattern x = unwrap_or (option_map (is_packet_for pattern x.part) x.packet) true
 
 -- What is kept of all that came.
-abbrev pub that_are_kept : Pattern → List Fetched → List Fetched
-that_are_kept pattern xs = filter (is_fetched_kept pattern) xs
+abbrev pub fetches_for : Pattern → List Fetched → List Fetched
+fetches_for pattern xs = filter (is_fetch_for pattern) xs
 
 -- The publications whose records came and aren't kept.
 abbrev pub not_kept : Pattern → List Fetched → List Pair
-not_kept pattern xs = map (λ x. pair_of x.part) (filter (λ x. not (is_fetched_kept pattern x)) xs)
+not_kept pattern xs = map (λ x. pair_of x.part) (filter (λ x. not (is_fetch_for pattern x)) xs)
 
 -- The same in order.
 abbrev pub passed_over : Pattern → List Fetched → List Pair
@@ -43,12 +43,12 @@ passed_over pattern xs = insert_keys pair_cmp (not_kept pattern xs) []
 -- They are hidden. What is kept is held, and its attempts count.
 abbrev pub mirror_takes : List Fetched → MirrorState → MirrorState
 mirror_takes xs m = record m {
-  store = with_all_fetched (that_are_kept m.pattern xs) m.store;
+  store = with_all_fetched (fetches_for m.pattern xs) m.store;
   passed = with_hidden (passed_over m.pattern xs) m.passed;
-  attempts = with_all_tries (that_are_kept m.pattern xs) m.attempts;
+  attempts = with_all_tries (fetches_for m.pattern xs) m.attempts;
 }
 
 -- No part of the publication is held, and none but its record could be asked for.
 pub record IsUnknownIn (plan : PlanState) (pair : Pair) : Type 0 where
   pub none_held : (t : Part) → pair_of t ≡ pair → holds plan t ≡ false
-  pub record_alone : (t : Part) → pair_of t ≡ pair → is_asked plan t ≡ true → t.part ≡ 0
+  pub record_alone : (t : Part) → pair_of t ≡ pair → may_be_asked_for plan t ≡ true → t.part ≡ 0

@@ -1,7 +1,7 @@
 -- What a mirror is to want, by its vector and by what it stores and passed over.
 use Rattle.std.specs.Prelude.{◌≡◌, ◌≤◌, ◌⊎◌, ◌↔◌, true, false, Some}
 use Rattle.repo_plan.specs.declared.part.Part.{Part}
-use Rattle.repo_plan.specs.Parts.{pair_of, parent, parts_after}
+use Rattle.repo_plan.specs.Parts.{pair_of, parent, last_part}
 use Rattle.repo_plan.specs.Plan.{is_wanted}
 use Rattle.repo_object.specs.Publication.{Listed}
 use Rattle.repo_holdings.specs.Listed.{listed_shape, listing_at}
@@ -17,7 +17,7 @@ pub record IsPartListed (m : MirrorState) (t : Part) : Type 0 where
   pub listing : Listed
   pub listed : listing_at m.store (pair_of t) ≡ Some listing
   pub from_one : 1 ≤ t.part
-  pub counted : t.part ≤ parts_after (listed_shape listing)
+  pub counted : t.part ≤ last_part (listed_shape listing)
   pub with_parent : mirror_holds (mirror_in_group m) (parent (listed_shape listing) t) ≡ true
   pub accepted : accepts m.pattern t.publisher listing.name ≡ true
 

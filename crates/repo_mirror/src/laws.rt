@@ -4,7 +4,7 @@ ghost use Rattle.repo_mirror.specs.ConsistentMirrors.{MirrorsPlanAlike, MirrorsW
 ghost use Rattle.repo_mirror.specs.ConsistentMirrors.{MirrorsAreHolders};
 ghost use Rattle.repo_mirror.specs.ConsistentMirrors.{MirrorsBeginConsistent, MirrorsLearnConsistent};
 ghost use Rattle.repo_mirror.specs.ConsistentMirrors.{MirrorsGrowConsistent, MirrorsTakeConsistent};
-ghost use Rattle.repo_mirror.specs.KeptPackets.{AreKeptPackets};
+ghost use Rattle.repo_mirror.specs.PacketsFor.{ArePacketsFor};
 ghost use Rattle.repo_mirror.specs.WantedAlone.{WantsThose};
 ghost use Rattle.repo_mirror.specs.MirrorCalls.{InEveryMirror, ListsAccepted, PassedIsGone, StoredStays, PassedStays};
 ghost use Rattle.repo_mirror.specs.MirrorCalls.{KnowsTheJoin};
@@ -15,7 +15,7 @@ ghost use Rattle.repo_mirror.specs.MirrorCalls.{KnowsTheJoin};
 pub fn calls_keep_mirrors_sound()
     ensures wants { InEveryMirror WantsThose }
     ensures lists { InEveryMirror ListsAccepted }
-    ensures packets { InEveryMirror (λ m. AreKeptPackets m.pattern m.store) }
+    ensures packets { InEveryMirror (λ m. ArePacketsFor m.pattern m.store) }
     ensures gone { InEveryMirror PassedIsGone }
 {}
 

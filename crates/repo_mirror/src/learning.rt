@@ -7,20 +7,20 @@ ghost use Rattle.repo_mirror.specs.Asked.{asked_numbers};
 use repo_holdings::Holdings;
 use svs_vector::Vector;
 
-// What is reported is known from now on, and what is reported of the publishers that are asked is wanted.
-pub(crate) fn learn(asked: Option<u32>, vector: &mut Vector, held: &mut Holdings, reported: &Vector)
-    requires width { length reported.now ≡ length vector.old }
-    requires few { length reported.now ≤ 16 }
+// What a received vector has is known from now on, and what it has of the publishers that are asked is wanted.
+pub(crate) fn learn(asked: Option<u32>, vector: &mut Vector, held: &mut Holdings, received: &Vector)
+    requires width { length received.now ≡ length vector.old }
+    requires few { length received.now ≤ 16 }
     requires known { held.old.known ≡ asked_numbers asked 0 vector.old }
-    ensures vector { vector.new ≡ join vector.old reported.now }
+    ensures vector { vector.new ≡ join vector.old received.now }
     ensures width { length vector.new ≡ length vector.old }
-    ensures held { held.new ≡ record held.old { known = asked_numbers asked 0 (join vector.old reported.now) } }
+    ensures held { held.new ≡ record held.old { known = asked_numbers asked 0 (join vector.old received.now) } }
 {
-    for member in 0..reported.members() as u32 {
-        let number = asked_number(asked, member, reported.get(member));
+    for member in 0..received.members() as u32 {
+        let number = asked_number(asked, member, received.get(member));
         held.raise(member, number);
     }
-    vector.join(reported);
+    vector.join(received);
 }
 
 // The number of a publisher that is asked, and 0 of another.

@@ -5,8 +5,8 @@ ghost use Rattle.repo_plan.specs.Leaps.{some_holds};
 ghost use Rattle.repo_holdings.specs.Listed.{member_catalogue};
 ghost use Rattle.repo_holdings.specs.Wanting.{AreShortNames};
 ghost use Rattle.repo_mirror.specs.Mirrors.{is_entry_accepted};
-ghost use Rattle.repo_mirror.specs.KeptPackets.{AreKeptPackets};
-ghost use Rattle.repo_mirror.specs.MirrorState.{mirror_opening};
+ghost use Rattle.repo_mirror.specs.PacketsFor.{ArePacketsFor};
+ghost use Rattle.repo_mirror.specs.MirrorState.{initial_mirror};
 ghost use Rattle.repo_mirror.specs.MirrorOutcomes.{planned_jobs, planned_jobs_that};
 ghost use Rattle.repo_mirror.specs.WantedAlone.{WantsThose};
 
@@ -67,7 +67,7 @@ impl Mirror {
     /// A mirror of a group of so many members, which knows of nothing.
     pub fn new(alloc: Global, members: usize, pattern: Pattern) -> Result<Mirror, AllocError>
         requires { members ≤ 16 }
-        ensures { IfOk result (λ mirror. mirror ≡ mirror_opening pattern members) }
+        ensures { IfOk result (λ mirror. mirror ≡ initial_mirror pattern members) }
     {
         Ok(Mirror {
             alloc,
@@ -78,15 +78,15 @@ impl Mirror {
     }
 
     /// What the vector tells is known from now on. It takes no memory.
-    pub fn learn(&mut self, reported: &Vector)
-        requires { length reported.now ≡ length self.old.known }
-        ensures { self.new ≡ record self.old { known = join self.old.known reported.now } }
+    pub fn learn(&mut self, received: &Vector)
+        requires { length received.now ≡ length self.old.known }
+        ensures { self.new ≡ record self.old { known = join self.old.known received.now } }
     {
         learn(
             self.pattern.publisher,
             &mut self.vector,
             &mut self.held,
-            reported,
+            received,
         );
     }
 
@@ -144,10 +144,10 @@ impl Mirror {
 
     /// What holds of every mirror: each packet that it stores passed its checks and is none that it passes over, and it
     /// wants just the parts that a mirror with its pattern is to want. Costs nothing, and is called for its clauses.
-    pub fn is_sound(&self)
-        ensures packets { AreKeptPackets self.now.pattern self.now.store }
+    pub fn cite_soundness(&self)
+        ensures packets { ArePacketsFor self.now.pattern self.now.store }
         ensures wants { WantsThose self.now }
     {
-        self.held.is_sound();
+        self.held.cite_soundness();
     }
 }

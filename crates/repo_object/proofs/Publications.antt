@@ -19,7 +19,7 @@ use Rattle.ndn_data.specs.Data.{Data, data_of}
 use Rattle.ndn_data.specs.WrittenData.{read_back}
 use Rattle.ndn_data.proofs.ReadBackLemmas.{data_again}
 use Rattle.repo_plan.specs.declared.part.Part.{Part}
-use Rattle.repo_plan.specs.Parts.{index_packets, parts_after}
+use Rattle.repo_plan.specs.Parts.{index_packets, last_part}
 use Rattle.repo_object.specs.Objects.{NamedContents, Post, IsObject, IsPost, Publisher, IsPublisher, key_name}
 use Rattle.repo_object.specs.Objects.{record_name, segment_name, shape_in}
 use Rattle.repo_object.specs.Objects.Post.{Offers, Withdraws}
@@ -448,7 +448,7 @@ module _ (publisher : Publisher) (is_publisher : IsPublisher publisher) where
 
 -- the record, and a packet for each part after it
 pub packets-length : (publisher : Publisher) (seq : ℕ) (post : Post)
-    → length (packets publisher seq post) ≡ parts_after (shape_in post) + 1
+    → length (packets publisher seq post) ≡ last_part (shape_in post) + 1
 packets-length publisher seq (Withdraws withdrawn) = refl
 packets-length publisher seq (Offers object) =
     omega (

@@ -21,7 +21,7 @@ use Rattle.repo_object.specs.declared.record_fields.RecordField.{RecordField}
 use Rattle.repo_object.specs.declared.record_fields.RecordField.TheVariants as field
 use Rattle.repo_object.specs.declared.record_fields.DigestReader.{DigestReader}
 use Rattle.repo_object.specs.Records.{record_table, record_fields, index_table, index_fields, digests_among}
-use Rattle.repo_object.specs.Readers.{digests_to_come, IsRow}
+use Rattle.repo_object.specs.Readers.{remaining_digests, IsRow}
 use Rattle.repo_object.specs.Formats.{IsDigest, as_digests, values}
 use Rattle.repo_object.proofs.DigestLemmas.{Fields}
 use Rattle.repo_object.proofs.RecordLemmas.{passes_some, elements_of, each_of_fields, digest_fields}
@@ -128,9 +128,9 @@ length-values (e ∷ es) = ap suc (length-values es)
 row : (content : List ℕ) (start : ℕ) (reader : DigestReader) → start ≤ length content
     → AreWithin start (length content) (field_items reader.fields.items)
     → Each (Stands content) (field_items reader.fields.items)
-    → IsSome (digests_to_come reader) → IsRow (drop start content) reader
-row content start reader inside within stand all full i lt = go (digests_to_come reader) refl all where
-  go : (o : Option (List (List ℕ))) → digests_to_come reader ≡ o → IsSome o
+    → IsSome (remaining_digests reader) → IsRow (drop start content) reader
+row content start reader inside within stand all full i lt = go (remaining_digests reader) refl all where
+  go : (o : Option (List (List ℕ))) → remaining_digests reader ≡ o → IsSome o
       → slice_get (unwrap_or o []) i ≡ Some (take 32 (drop (34 * i + 2) (drop start content)))
   go None p s = absurd cc
   go (Some digests) p s =
@@ -191,7 +191,7 @@ module _ (content : List ℕ) (fits : IsOctets content) where
     pub count_ends : count.end ≤ length content
     count_ends = AreWithin-ends count.end (length content) (field_items reader.fields.items) within.3.3
 
-    pub record_row : IsSome (digests_to_come reader) → IsRow (drop count.end content) reader
+    pub record_row : IsSome (remaining_digests reader) → IsRow (drop count.end content) reader
     record_row =
         let E : Fields → Type 0 = λ f. Each (Stands content) (elements_of f) in
         let stand = subst E are (fields_stand record_table) in
@@ -199,7 +199,7 @@ module _ (content : List ℕ) (fits : IsOctets content) where
 
   -- in an index packet
   pub index_row : (reader : DigestReader) → reader.fields ≡ index_fields content
-      → IsSome (digests_to_come reader) → IsRow content reader
+      → IsSome (remaining_digests reader) → IsRow content reader
   index_row reader are =
       let W : Fields → Type 0 = λ f. AreWithin 0 (length content) (elements_of f) in
       let E : Fields → Type 0 = λ f. Each (Stands content) (elements_of f) in

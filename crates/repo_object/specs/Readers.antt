@@ -13,18 +13,18 @@ use Rattle.repo_object.specs.Publication.RecordSays.{WithdrawsNumber}
 use Rattle.repo_object.specs.Records.{digest_len, counted_digests, listed_record, record_fields}
 
 -- The digests that a reader has still to read, where they are all there.
-abbrev pub digests_to_come : DigestReader → Option (List (List ℕ))
-digests_to_come reader = counted_digests reader.indexes reader.left reader.fields
+abbrev pub remaining_digests : DigestReader → Option (List (List ℕ))
+remaining_digests reader = counted_digests reader.indexes reader.left reader.fields
 
 -- The same, where they are all there.
 abbrev pub digests_left : DigestReader → List (List ℕ)
-digests_left reader = unwrap_or (digests_to_come reader) []
+digests_left reader = unwrap_or (remaining_digests reader) []
 
 -- What a record says that was read up to its digests, where these are all there.
 abbrev pub stated_to_come : RecordReader → Option RecordSays
 stated_to_come (reader.Withdraws withdrawn) = Some (WithdrawsNumber withdrawn)
 stated_to_come (reader.Lists name segments digests row) =
-    option_map (listed_record name segments) (digests_to_come digests)
+    option_map (listed_record name segments) (remaining_digests digests)
 
 -- How many octets the element of a digest has: a type, a length, and the digest.
 abbrev pub digest_element_len : ℕ
@@ -39,13 +39,13 @@ IsRow octets reader =
 
 -- The digests of a reader are all there, and these octets hold them.
 pub record DigestsAreRead (reader : DigestReader) (octets : List ℕ) : Type 0 where
-  pub all : IsSome (digests_to_come reader)
+  pub all : IsSome (remaining_digests reader)
   pub row : IsRow octets reader
 
 -- So it is of a record that was read up to its digests, where they are all there.
 abbrev pub HasItsRow : RecordReader → Type 0
 HasItsRow (reader.Withdraws withdrawn) = Unit
-HasItsRow (reader.Lists name segments digests row) = IsSome (digests_to_come digests) → IsRow row.now digests
+HasItsRow (reader.Lists name segments digests row) = IsSome (remaining_digests digests) → IsRow row.now digests
 
 -- The fields of a content by the order table of records begin with this one, and these follow.
 abbrev pub BeginsWith : List ℕ → RecordField × Item → Listing (RecordField × Item) FieldError → Type 0

@@ -1,6 +1,6 @@
 ghost use Rattle.std.specs.Prelude.{◌≡◌, Some, IsSome, IfOk, length, option_map, slice_get};
 ghost use Rattle.repo_object.specs.Records.{index_of};
-ghost use Rattle.repo_object.specs.Readers.{digests_to_come, digests_left, IsRow};
+ghost use Rattle.repo_object.specs.Readers.{remaining_digests, digests_left, IsRow};
 ghost use Rattle.repo_object.specs.Verdict.{index_in};
 
 use crate::record_fields::DigestReader;
@@ -35,8 +35,8 @@ impl<'p> Model for DigestsView<'p> {
 impl<'p> DigestsView<'p> {
     // The digests that a reader still has, if they are all there.
     pub(crate) fn read(digests: DigestReader<'p>, row: &'p [u8]) -> Option<DigestsView<'p>>
-        requires { IsSome (digests_to_come digests) → IsRow row.now digests }
-        ensures { result ≡ digests_to_come digests.entry }
+        requires { IsSome (remaining_digests digests) → IsRow row.now digests }
+        ensures { result ≡ remaining_digests digests.entry }
     {
         if !digests.copy().are_all() {
             return None;
@@ -46,9 +46,9 @@ impl<'p> DigestsView<'p> {
 
     // The same, where they are known to be there. They are not gone over.
     pub(crate) fn known(digests: DigestReader<'p>, row: &'p [u8]) -> DigestsView<'p>
-        requires all { IsSome (digests_to_come digests) }
-        requires row { IsSome (digests_to_come digests) → IsRow row.now digests }
-        ensures { digests_to_come digests.entry ≡ Some result }
+        requires all { IsSome (remaining_digests digests) }
+        requires row { IsSome (remaining_digests digests) → IsRow row.now digests }
+        ensures { remaining_digests digests.entry ≡ Some result }
     {
         DigestsView { digests, row }
     }
@@ -99,7 +99,7 @@ impl<'p> DigestsView<'p> {
 
 // The digests that are still to come, which are all there.
 fn read_digests(alloc: Global, mut digests: DigestReader<'_>) -> Result<Vec<[u8; 32]>, AllocError>
-    requires { IsSome (digests_to_come digests) }
+    requires { IsSome (remaining_digests digests) }
     ensures { IfOk result (λ read. read.items ≡ digests_left digests.entry) }
 {
     let mut read = Vec::with_capacity(alloc, usize::from(digests.left()))?;

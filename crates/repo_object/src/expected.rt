@@ -10,7 +10,7 @@ ghost use Rattle.repo_object.specs.Verdict.{data_has_name, has_digest, ring_verd
 use crate::name_parts::NameParts;
 use crate::part_refusal::PartRefusal;
 use crate::shown::Shown;
-use crate::verdict::judge;
+use crate::verdict::evaluate;
 use crate::want::{Want, listed_in};
 use ndn_data::DataView;
 use ndn_name::{Name, NameView};
@@ -174,7 +174,7 @@ impl<'w> Expected<'w> {
             (λ refusal. ring_verdict self.now ring.now (octets_shown shown.now) ≡ Err refusal) }
     {
         let data = DataView::read(shown.octets())?;
-        judge(self, ring, self.part.publisher, shown, &data)
+        evaluate(self, ring, self.part.publisher, shown, &data)
     }
 
     // The part.

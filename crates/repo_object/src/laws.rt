@@ -12,7 +12,7 @@ ghost use Rattle.ndn_interest.specs.Interest.{interest_of};
 ghost use Rattle.ndn_interest.specs.WrittenInterest.{read_plain};
 ghost use Rattle.repo_plan.specs.declared.part.Part.{Part};
 ghost use Rattle.repo_plan.specs.declared.shape.Shape.{Shape};
-ghost use Rattle.repo_plan.specs.Parts.{most_listed, index_packets, parts_after};
+ghost use Rattle.repo_plan.specs.Parts.{most_listed, index_packets, last_part};
 ghost use Rattle.repo_object.specs.Limits.{node_name_limit, object_name_limit, segment_limit, content_limit};
 ghost use Rattle.repo_object.specs.Objects.{NamedContents, Post, IsObject, IsPost, Publisher, IsPublisher};
 ghost use Rattle.repo_object.specs.Objects.{IsShortName, key_name, record_name, segment_name, shape_in};
@@ -91,7 +91,7 @@ pub fn passing_is_every_check()
 /// A publication has a packet for each part, and none has more octets than a packet may have.
 pub fn packets_fit()
     ensures count { (publisher : Publisher) (seq : ℕ) (post : Post)
-        → length (packets publisher seq post) ≡ parts_after (shape_in post) + 1 }
+        → length (packets publisher seq post) ≡ last_part (shape_in post) + 1 }
     ensures short { (publisher : Publisher) (seq : ℕ) (post : Post)
         → IsPublisher publisher → IsPost seq post → seq < 2 ^ 16
         → All (λ packet. length packet ≤ packet_limit) (packets publisher seq post) }

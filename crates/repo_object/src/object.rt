@@ -80,7 +80,7 @@ impl Object {
         requires contents { All (λ c. IsContent c.items) contents.items }
         ensures { result ≡ record { name = name; contents = map (λ c. c.items) contents.items } }
     {
-        name.is_sound();
+        name.cite_soundness();
         Object { name, contents }
     }
 

@@ -379,7 +379,7 @@ fn write_packet(
         (λ packet. packet.items ≡ written_data name.now last content.now key_name.now key.now) }
     ensures data { IfOk result (λ packet. IsOk (data_of packet.items)) }
 {
-    name.is_sound();
-    key_name.is_sound();
+    name.cite_soundness();
+    key_name.cite_soundness();
     write_signed(alloc, name, last, content, key_name, key).map_err(PacketWriteFault::only_memory)
 }

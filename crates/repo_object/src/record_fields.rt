@@ -5,7 +5,7 @@ ghost use Rattle.repo_object.specs.Limits.{segment_limit};
 ghost use Rattle.repo_object.specs.Publication.{count_listed};
 ghost use Rattle.repo_object.specs.Records.{record_of, index_of, withdrawal_among, counted_among, digest_in};
 ghost use Rattle.repo_object.specs.Records.{number_in, object_name_in, segment_count_in};
-ghost use Rattle.repo_object.specs.Readers.{stated_to_come, digests_to_come, digests_left, IsRow, HasItsRow};
+ghost use Rattle.repo_object.specs.Readers.{stated_to_come, remaining_digests, digests_left, IsRow, HasItsRow};
 ghost use Rattle.repo_object.specs.Readers.{BeginsWith};
 
 use crate::object::{SEGMENT_LIMIT, is_object_name};
@@ -204,8 +204,8 @@ fn number_in(element: Element<'_>) -> Option<u16>
 impl<'p> DigestReader<'p> {
     // The digests of an index packet of this content that lists so many.
     pub(crate) fn of_index(content: &'p [u8], count: u16) -> DigestReader<'p>
-        ensures read { digests_to_come result ≡ index_of content.now count }
-        ensures row { IsSome (digests_to_come result) → IsRow content.now result }
+        ensures read { remaining_digests result ≡ index_of content.now count }
+        ensures row { IsSome (remaining_digests result) → IsRow content.now result }
     {
         let fields = FieldReader::new(Reader::new(content, 0), &INDEX);
         DigestReader {
@@ -236,12 +236,12 @@ impl<'p> DigestReader<'p> {
     // The next digest, or `None` where there are as many as were counted and no more.
     pub(crate) fn next(&mut self) -> Result<Option<&'p [u8; 32]>, RecordFault>
         ensures ok { IfOk result (λ next. MatchOption next
-            (digests_to_come self.old ≡ Some [])
-            (λ digest. digests_to_come self.old
-            ≡ option_map (λ digests. digest.now ∷ digests) (digests_to_come self.new))) }
+            (remaining_digests self.old ≡ Some [])
+            (λ digest. remaining_digests self.old
+            ≡ option_map (λ digests. digest.now ∷ digests) (remaining_digests self.new))) }
         ensures fewer { IfOk result (λ next. IfSome next (λ _. self.new.left < self.old.left)) }
         ensures bad { IfErr result
-            (λ fault. (fault ≡ RecordFault.BadRecord) × (digests_to_come self.old ≡ None)) }
+            (λ fault. (fault ≡ RecordFault.BadRecord) × (remaining_digests self.old ≡ None)) }
     {
         let Ok(next) = self.fields.next() else {
             return Err(RecordFault::BadRecord);
@@ -266,7 +266,7 @@ impl<'p> DigestReader<'p> {
 
     // Whether there are as many as were counted.
     pub(crate) fn are_all(mut self) -> bool
-        ensures { result ≡ is_some (digests_to_come self.entry) }
+        ensures { result ≡ is_some (remaining_digests self.entry) }
     {
         while let Ok(next) = self.next() {
             if next.is_none() {
@@ -278,7 +278,7 @@ impl<'p> DigestReader<'p> {
 
     // The digest at a place, of those that are all there.
     pub(crate) fn at(mut self, place: usize) -> Option<&'p [u8; 32]>
-        requires { IsSome (digests_to_come self) }
+        requires { IsSome (remaining_digests self) }
         ensures { option_map (λ digest. digest.now) result
             ≡ slice_get (digests_left self.entry) place }
     {

@@ -17,7 +17,7 @@ use ndn_sign::KeyRing;
 use repo_plan::Part;
 
 // Whether what is shown, which is this packet, is what is expected, under the key that the ring has at that number.
-pub(crate) fn judge(
+pub(crate) fn evaluate(
     want: &Expected<'_>,
     ring: &KeyRing,
     number: u32,

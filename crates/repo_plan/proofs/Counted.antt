@@ -16,11 +16,12 @@ use Rattle.sorted_lists.proofs.Ranges.{length-numbers}
 use Rattle.sorted_lists.proofs.SameSets.{same_sets}
 use Rattle.sorted_lists.proofs.Sets.{In, in_contains, contains_in, contains-filter, rises_filter, eq_same, eq_itself}
 use Rattle.repo_plan.specs.Counts.{how_many}
-use Rattle.repo_plan.specs.Parts.{Pair, Shape, IsShape, part_cmp, pair_cmp, pair_of, part_of, parts_after}
-use Rattle.repo_plan.specs.Parts.{parts_reported, parent_number}
-use Rattle.repo_plan.specs.Plan.{PlanState, knows, holds, hides, shape_of, can_be_asked, is_asked, is_wanted, is_in}
+use Rattle.repo_plan.specs.Parts.{Pair, Shape, IsShape, part_cmp, pair_cmp, pair_of, part_of, last_part}
+use Rattle.repo_plan.specs.Parts.{last_known_part, parent_number}
+use Rattle.repo_plan.specs.Plan.{PlanState, knows, holds, hides, shape_of, is_listed_part, may_be_asked_for, is_wanted}
+use Rattle.repo_plan.specs.Plan.{is_in}
 use Rattle.repo_plan.specs.Plan.{is_done, is_complete, pairs_of, pairs_from, parts_known, known_parts, wanted, raises}
-use Rattle.repo_plan.specs.Plan.{opening}
+use Rattle.repo_plan.specs.Plan.{initial_plan}
 use Rattle.repo_plan.proofs.Recounted.{more_known}
 use Rattle.repo_plan.proofs.HeldMore.{held_one_more, one_before, more_listed}
 use Rattle.repo_plan.specs.Sound.{PlanIsSound, CanBeHeld}
@@ -38,26 +39,27 @@ use Rattle.repo_plan.proofs.Changes.{IsWanted, wanted_parts, wanted_from, with_p
 -- ---- the parts of one publication
 
 module _ (p : PlanState) (pair : Pair) (xs : List Part) (r : Rises part_cmp xs) (f : Part → Bool)
-    (has : (u : Part) → contains part_cmp xs u ≡ f u) (asked : (u : Part) → f u ≡ true → is_asked p u ≡ true) where
+    (has : (u : Part) → contains part_cmp xs u ≡ f u)
+    (asked : (u : Part) → f u ≡ true → may_be_asked_for p u ≡ true) where
   to_known : (u : Part) → (is_in pair u && contains part_cmp xs u) ≡ true
       → (f u && contains part_cmp (parts_known p pair) u) ≡ true
   to_known u h =
       let b : (is_in pair u ≡ true) × (contains part_cmp xs u ≡ true) = and_parts (is_in pair u) _ h in
       let e : pair ≡ pair_of u = eq_same exact_pairs pair (pair_of u) b.0 in
       let fu : f u ≡ true = sym (has u) ∙ b.1 in
-      let a : (knows p (pair_of u) ≡ true) × (can_be_asked p.held (shape_of p (pair_of u)) u ≡ true) =
+      let a : (knows p (pair_of u) ≡ true) × (is_listed_part p.held (shape_of p (pair_of u)) u ≡ true) =
       and_parts (knows p (pair_of u)) _ (asked u fu) in
       and_from (f u) _ fu
       (contains_in exact_parts (parts_known p pair) u
       (subst (λ (q : Pair). In u (parts_known p q)) (sym e)
-      (in_parts_of (parts_reported (shape_of p (pair_of u))) u (counted p (shape_of p (pair_of u)) u a.1))))
+      (in_parts_of (last_known_part (shape_of p (pair_of u))) u (counted p (shape_of p (pair_of u)) u a.1))))
 
   from_known : (u : Part) → (f u && contains part_cmp (parts_known p pair) u) ≡ true
       → (is_in pair u && contains part_cmp xs u) ≡ true
   from_known u h =
       let b : (f u ≡ true) × (contains part_cmp (parts_known p pair) u ≡ true) = and_parts (f u) _ h in
-      let q : (pair_of u ≡ pair) × (u.part ≤ parts_reported (shape_of p pair)) =
-      from_parts_of pair (parts_reported (shape_of p pair)) u (in_contains exact_parts (parts_known p pair) u b.1) in
+      let q : (pair_of u ≡ pair) × (u.part ≤ last_known_part (shape_of p pair)) =
+      from_parts_of pair (last_known_part (shape_of p pair)) u (in_contains exact_parts (parts_known p pair) u b.1) in
       and_from (is_in pair u) _ (ap (eq_by_cmp pair_cmp pair) q.0 ∙ eq_itself exact_pairs pair) (has u ∙ b.0)
 
   -- those of a set that are of the publication are among its known ones
@@ -66,33 +68,33 @@ module _ (p : PlanState) (pair : Pair) (xs : List Part) (r : Rises part_cmp xs) 
       same_sets exact_parts (filter (is_in pair) xs) (filter f (parts_known p pair))
       (rises_filter exact_parts.total (is_in pair) xs r)
       (rises_filter exact_parts.total f (parts_known p pair)
-      (rises_numbers p pair 0 (parts_reported (shape_of p pair) + 1))) (λ u.
+      (rises_numbers p pair 0 (last_known_part (shape_of p pair) + 1))) (λ u.
       contains-filter exact_parts (is_in pair) xs u
       ∙ both_ways (is_in pair u && contains part_cmp xs u) (f u && contains part_cmp (parts_known p pair) u)
       (to_known u) (from_known u)
       ∙ sym (contains-filter exact_parts f (parts_known p pair) u))
 
   pub many_there : length (filter (is_in pair) xs)
-      ≡ how_many (λ x. f (part_of pair x)) 0 (parts_reported (shape_of p pair) + 1)
+      ≡ how_many (λ x. f (part_of pair x)) 0 (last_known_part (shape_of p pair) + 1)
   many_there =
-      ap length there ∙ made_of (part_of pair) f (numbers_from 0 (parts_reported (shape_of p pair) + 1))
+      ap length there ∙ made_of (part_of pair) f (numbers_from 0 (last_known_part (shape_of p pair) + 1))
 
 module _ (p : PlanState) (s : PlanIsSound p) where
   pub held_there : (pair : Pair) → length (filter (is_in pair) p.held)
-      ≡ how_many (λ x. holds p (part_of pair x)) 0 (parts_reported (shape_of p pair) + 1)
+      ≡ how_many (λ x. holds p (part_of pair x)) 0 (last_known_part (shape_of p pair) + 1)
   held_there pair = many_there p pair p.held s.in_order.held (holds p) (λ u. refl) (λ u h. (s.held u h).asked)
 
   pub wanted_there : (pair : Pair) → length (filter (is_in pair) (wanted p))
-      ≡ how_many (λ x. is_wanted p (part_of pair x)) 0 (parts_reported (shape_of p pair) + 1)
+      ≡ how_many (λ x. is_wanted p (part_of pair x)) 0 (last_known_part (shape_of p pair) + 1)
   wanted_there pair =
       many_there p pair (wanted p) (wanted_rises p) (is_wanted p) (contains-wanted p) (wanted_is_asked p)
 
   -- ---- they are few enough
 
-  few_reported : (o : Option Shape) → IfSome o IsShape → parts_reported o ≤ 20100
-  few_reported None i = omega arith
-  few_reported (Some n) i = few_index (nat_le n.segments 200) i.index where
-    few_index : (b : Bool) → n.index ≡ cond b 0 ((n.segments + 200 - 1) / 200) → parts_after n ≤ 20100
+  few_known_parts : (o : Option Shape) → IfSome o IsShape → last_known_part o ≤ 20100
+  few_known_parts None i = omega arith
+  few_known_parts (Some n) i = few_index (nat_le n.segments 200) i.index where
+    few_index : (b : Bool) → n.index ≡ cond b 0 ((n.segments + 200 - 1) / 200) → last_part n ≤ 20100
     few_index true e = omega (arith, e, i.segments)
     few_index false e = omega (arith, e, i.segments)
 
@@ -103,14 +105,14 @@ module _ (p : PlanState) (s : PlanIsSound p) where
   few_of : (pairs : List Pair) → length (flat_map (parts_known p) pairs) ≤ 32768 * length pairs
   few_of [] = omega arith
   few_of (x ∷ xs) =
-      let here : length (parts_known p x) ≡ parts_reported (shape_of p x) + 1 =
-      length-map (numbers_from 0 (parts_reported (shape_of p x) + 1)) (part_of x)
-      ∙ length-numbers 0 (parts_reported (shape_of p x) + 1) in
+      let here : length (parts_known p x) ≡ last_known_part (shape_of p x) + 1 =
+      length-map (numbers_from 0 (last_known_part (shape_of p x) + 1)) (part_of x)
+      ∙ length-numbers 0 (last_known_part (shape_of p x) + 1) in
       omega (
         arith,
         length-append (parts_known p x) (flat_map (parts_known p) xs),
         here,
-        few_reported (shape_of p x) (sized x (shape_of p x) refl),
+        few_known_parts (shape_of p x) (sized x (shape_of p x) refl),
         few_of xs,
       )
 
@@ -178,7 +180,7 @@ module _ (p : Inside) (i : IsPlan p) (pair : Pair) where
   pub none_held : shape_of now pair ≡ None → length (filter (is_in pair) now.held) ≡ 0
   none_held e =
       held_there now i.sound pair
-      ∙ nothing (λ x. holds now (part_of pair x)) 0 (parts_reported (shape_of now pair) + 1) (λ x.
+      ∙ nothing (λ x. holds now (part_of pair x)) 0 (last_known_part (shape_of now pair) + 1) (λ x.
       false_from_ne_true (holds now (part_of pair x)) (λ h.
       true≢false
       (sym (i.sound.held (part_of pair x) h).with_record ∙ sym (i.sound.shapes pair) ∙ ap is_some e)))
@@ -186,7 +188,7 @@ module _ (p : Inside) (i : IsPlan p) (pair : Pair) where
   pub none_unknown : knows now pair ≡ false → length (filter (is_in pair) (wanted now)) ≡ 0
   none_unknown off =
       wanted_there now i.sound pair
-      ∙ nothing (λ x. is_wanted now (part_of pair x)) 0 (parts_reported (shape_of now pair) + 1) (λ x.
+      ∙ nothing (λ x. is_wanted now (part_of pair x)) 0 (last_known_part (shape_of now pair) + 1) (λ x.
       false_from_ne_true (is_wanted now (part_of pair x)) (λ h.
       true≢false
       (sym (and_parts (knows now pair) _ (wanted_is_asked now (part_of pair x) h)).0 ∙ off)))
@@ -194,7 +196,7 @@ module _ (p : Inside) (i : IsPlan p) (pair : Pair) where
   pub none_done : has_number nat_cmp p.done pair ≡ true → length (filter (is_in pair) (wanted now)) ≡ 0
   none_done done =
       wanted_there now i.sound pair
-      ∙ nothing (λ x. is_wanted now (part_of pair x)) 0 (parts_reported (shape_of now pair) + 1) (λ x.
+      ∙ nothing (λ x. is_wanted now (part_of pair x)) 0 (last_known_part (shape_of now pair) + 1) (λ x.
       false_from_ne_true (is_wanted now (part_of pair x)) (λ h.
       let w : IsWanted now (part_of pair x) = wanted_parts now (part_of pair x) h in
       elim (or_cases (hides now pair) (is_complete now pair) (sym (i.all_done pair) ∙ done)) [
@@ -202,7 +204,7 @@ module _ (p : Inside) (i : IsPlan p) (pair : Pair) where
         | inr whole ↦
             true≢false
             (sym (each_all (holds now) (parts_known now pair) whole (part_of pair x)
-            (in_parts_of (parts_reported (shape_of now pair)) (part_of pair x)
+            (in_parts_of (last_known_part (shape_of now pair)) (part_of pair x)
             (counted now (shape_of now pair) (part_of pair x) (and_parts (knows now pair) _ w.asked).1)))
             ∙ w.not_held)
       ]))
@@ -217,59 +219,60 @@ module _ (p : Inside) (i : IsPlan p) (pair : Pair) where
         wanted_from now (part_of pair 0) (record {
           asked =
               and_from (knows now pair) _ known
-              (ap (λ (o : Option Shape). can_be_asked now.held o (part_of pair 0)) none);
+              (ap (λ (o : Option Shape). is_listed_part now.held o (part_of pair 0)) none);
           not_held = sym (i.sound.shapes pair) ∙ ap is_some none;
           not_hidden = not_hidden;
         }) in
         wanted_there now i.sound pair
-        ∙ ap (λ (o : Option Shape). how_many (λ x. is_wanted now (part_of pair x)) 0 (parts_reported o + 1)) none
+        ∙ ap (λ (o : Option Shape). how_many (λ x. is_wanted now (part_of pair x)) 0 (last_known_part o + 1)) none
         ∙ every (λ x. is_wanted now (part_of pair x)) 0 1 (λ x a b.
         let z : x ≡ 0 = omega (arith, b) in
         ap (λ (y : ℕ). is_wanted now (part_of pair y)) z ∙ here)
 
     pub some_wanted : (n : Shape) → shape_of now pair ≡ Some n
-        → how_many (λ x. is_asked now (part_of pair x)) 0 (parts_after n + 1)
+        → how_many (λ x. may_be_asked_for now (part_of pair x)) 0 (last_part n + 1)
         ≡ length (filter (is_in pair) now.held) + length (filter (is_in pair) (wanted now))
     some_wanted n e =
         let all =
-        parted (λ x. is_asked now (part_of pair x)) (λ x. holds now (part_of pair x))
+        parted (λ x. may_be_asked_for now (part_of pair x)) (λ x. holds now (part_of pair x))
         (λ x. is_wanted now (part_of pair x))
-        (λ x. ap (λ (b : Bool). is_asked now (part_of pair x) && (not (holds now (part_of pair x)) && not b)) not_hidden
-        ∙ ap (λ (b : Bool). is_asked now (part_of pair x) && b) (and_on (not (holds now (part_of pair x)))))
-        (λ x h. (i.sound.held (part_of pair x) h).asked) 0 (parts_after n + 1) in
+        (λ x. ap (λ (b : Bool). may_be_asked_for now (part_of pair x) && (not (holds now (part_of pair x)) && not b))
+        not_hidden
+        ∙ ap (λ (b : Bool). may_be_asked_for now (part_of pair x) && b) (and_on (not (holds now (part_of pair x)))))
+        (λ x h. (i.sound.held (part_of pair x) h).asked) 0 (last_part n + 1) in
         let held =
         held_there now i.sound pair
-        ∙ ap (λ (o : Option Shape). how_many (λ x. holds now (part_of pair x)) 0 (parts_reported o + 1)) e in
+        ∙ ap (λ (o : Option Shape). how_many (λ x. holds now (part_of pair x)) 0 (last_known_part o + 1)) e in
         let want =
         wanted_there now i.sound pair
-        ∙ ap (λ (o : Option Shape). how_many (λ x. is_wanted now (part_of pair x)) 0 (parts_reported o + 1)) e in
+        ∙ ap (λ (o : Option Shape). how_many (λ x. is_wanted now (part_of pair x)) 0 (last_known_part o + 1)) e in
         omega (arith, all, held, want) where
           and_on : (b : Bool) → (b && true) ≡ b
           and_on true = refl
           and_on false = refl
 
   module _ (n : Shape) (e : shape_of now pair ≡ Some n) where
-    held_here : length (filter (is_in pair) now.held) ≡ how_many (λ x. holds now (part_of pair x)) 0 (parts_after n + 1)
+    held_here : length (filter (is_in pair) now.held) ≡ how_many (λ x. holds now (part_of pair x)) 0 (last_part n + 1)
     held_here =
         held_there now i.sound pair
-        ∙ ap (λ (o : Option Shape). how_many (λ x. holds now (part_of pair x)) 0 (parts_reported o + 1)) e
+        ∙ ap (λ (o : Option Shape). how_many (λ x. holds now (part_of pair x)) 0 (last_known_part o + 1)) e
 
-    pub all_held : has_number nat_cmp p.done pair ≡ true → length (filter (is_in pair) now.held) ≡ parts_after n + 1
+    pub all_held : has_number nat_cmp p.done pair ≡ true → length (filter (is_in pair) now.held) ≡ last_part n + 1
     all_held done =
         let whole : is_complete now pair ≡ true =
         sym (complete_is p i pair) ∙ (λ j. is_some (e j) && done j) in
         held_here
-        ∙ every (λ x. holds now (part_of pair x)) 0 (parts_after n + 1)
+        ∙ every (λ x. holds now (part_of pair x)) 0 (last_part n + 1)
         (λ x a b. each_held now pair n e whole x (omega (arith, b)))
 
     pub run_held : has_number nat_cmp p.done pair ≡ false
         → length (filter (is_in pair) now.held)
-        ≡ how_many (λ x. has_number pair_cmp p.held (pair, x)) 0 (parts_after n + 1)
+        ≡ how_many (λ x. has_number pair_cmp p.held (pair, x)) 0 (last_part n + 1)
     run_held undone =
         let open_yet : is_done now pair ≡ false = sym (i.all_done pair) ∙ undone in
         held_here
         ∙ same_many (λ x. holds now (part_of pair x)) (λ x. has_number pair_cmp p.held (pair, x))
-        (λ x. go x open_yet (has_number pair_cmp p.held (pair, x)) refl) 0 0 (parts_after n + 1) (parts_after n + 1)
+        (λ x. go x open_yet (has_number pair_cmp p.held (pair, x)) refl) 0 0 (last_part n + 1) (last_part n + 1)
         refl refl where
           go : (x : ℕ) → is_done now pair ≡ false → (b : Bool) → has_number pair_cmp p.held (pair, x) ≡ b
               → holds now (part_of pair x) ≡ b
@@ -282,20 +285,21 @@ no_pairs : (members k : ℕ) → let z : ℕ = 0 in pairs_from k (replicate memb
 no_pairs zero k = refl
 no_pairs (suc members) k = no_pairs members (k + 1)
 
-pub none_wanted : (members : ℕ) → length (wanted (opening members)) ≡ 0
+pub none_wanted : (members : ℕ) → length (wanted (initial_plan members)) ≡ 0
 none_wanted members =
-    let p = opening members in
+    let p = initial_plan members in
     ap (λ (pairs : List Pair). length (filter (is_wanted p) (flat_map (parts_known p) pairs))) (no_pairs members 0)
 
 module _ (p : Inside) (i : IsPlan p) (t : Part) (can : CanBeHeld (holdings p) t)
-    (fresh : holds (holdings p) t ≡ false) (shape : Option Shape) (reported : is_some shape ≡ (t.part == 0)) (n : Shape)
+    (fresh : holds (holdings p) t ≡ false) (shape : Option Shape) (last_number : is_some shape ≡ (t.part == 0))
+    (n : Shape)
     (tells : shape_of (with_part t shape (holdings p)) (pair_of t) ≡ Some n) where
   pub held_now : p.held_count + 1 ≡ length (with_part t shape (holdings p)).held
   held_now =
       omega (
         arith,
         i.counted.held,
-        held_one_more (holdings p) t i.sound can fresh shape reported n tells,
+        held_one_more (holdings p) t i.sound can fresh shape last_number n tells,
       )
 
   pub wanted_some : 1 ≤ p.wanted_count
@@ -303,10 +307,10 @@ module _ (p : Inside) (i : IsPlan p) (t : Part) (can : CanBeHeld (holdings p) t)
       omega (
         arith,
         i.counted.wanted,
-        one_before (holdings p) t i.sound can fresh shape reported n tells,
+        one_before (holdings p) t i.sound can fresh shape last_number n tells,
       )
 
-  pub wanted_now : (k : ℕ) → k ≡ how_many (λ x. parent_number n x == t.part) 1 (parts_after n)
+  pub wanted_now : (k : ℕ) → k ≡ how_many (λ x. parent_number n x == t.part) 1 (last_part n)
       → p.wanted_count - 1 + k ≡ length (wanted (with_part t shape (holdings p)))
   wanted_now k e =
       omega (
@@ -314,7 +318,7 @@ module _ (p : Inside) (i : IsPlan p) (t : Part) (can : CanBeHeld (holdings p) t)
         e,
         i.counted.wanted,
         wanted_some,
-        more_listed (holdings p) t i.sound can fresh shape reported n tells,
+        more_listed (holdings p) t i.sound can fresh shape last_number n tells,
       )
 
   pub held_fits : IfSome shape IsShape → p.held_count + 1 < 2 ^ 64
@@ -322,17 +326,18 @@ module _ (p : Inside) (i : IsPlan p) (t : Part) (can : CanBeHeld (holdings p) t)
       omega (
         arith,
         held_now,
-        few_held (with_part t shape (holdings p)) (sound_part (holdings p) t i.sound can fresh shape reported sized)
+        few_held (with_part t shape (holdings p)) (sound_part (holdings p) t i.sound can fresh shape last_number sized)
             i.counted.numbers,
       )
 
-  pub wanted_fits : (k : ℕ) → k ≡ how_many (λ x. parent_number n x == t.part) 1 (parts_after n)
+  pub wanted_fits : (k : ℕ) → k ≡ how_many (λ x. parent_number n x == t.part) 1 (last_part n)
       → IfSome shape IsShape → p.wanted_count - 1 + k < 2 ^ 64
   wanted_fits k e sized =
       omega (
         arith,
         wanted_now k e,
-        few_wanted (with_part t shape (holdings p)) (sound_part (holdings p) t i.sound can fresh shape reported sized)
+        few_wanted (with_part t shape (holdings p))
+            (sound_part (holdings p) t i.sound can fresh shape last_number sized)
             i.counted.numbers,
       )
 

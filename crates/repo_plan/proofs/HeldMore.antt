@@ -16,8 +16,8 @@ use Rattle.sorted_lists.proofs.SameSets.{same_sets}
 use Rattle.sorted_lists.proofs.Sets.{In, in_contains, contains_in, contains-filter, contains-insert_key, rises_filter}
 use Rattle.sorted_lists.proofs.Sets.{eq_same, eq_itself, eq_turned, from_map, in_map}
 use Rattle.repo_plan.specs.Counts.{how_many}
-use Rattle.repo_plan.specs.Parts.{Pair, Shape, part_cmp, pair_of, part_of, parts_after, parent, parent_number}
-use Rattle.repo_plan.specs.Plan.{PlanState, knows, holds, shape_of, can_be_asked, is_asked, is_wanted, wanted}
+use Rattle.repo_plan.specs.Parts.{Pair, Shape, part_cmp, pair_of, part_of, last_part, parent, parent_number}
+use Rattle.repo_plan.specs.Plan.{PlanState, knows, holds, shape_of, is_listed_part, may_be_asked_for, is_wanted, wanted}
 use Rattle.repo_plan.specs.Sound.{PlanIsSound, CanBeHeld}
 use Rattle.repo_plan.proofs.Orders.{exact_parts}
 use Rattle.repo_plan.proofs.Counts.{made_of}
@@ -45,35 +45,35 @@ longer t (x ∷ xs) off =
       go Greater e ne h = omega (arith, h)
 
 -- the part that lists one that is asked for, which isn't the record, is held
-asked_parent : (q : PlanState) (u : Part) → is_asked q u ≡ true → (u.part ≡ 0 → ⊥)
-    → (m : Shape) × (shape_of q (pair_of u) ≡ Some m) × (u.part ≤ parts_after m) × (holds q (parent m u) ≡ true)
+asked_parent : (q : PlanState) (u : Part) → may_be_asked_for q u ≡ true → (u.part ≡ 0 → ⊥)
+    → (m : Shape) × (shape_of q (pair_of u) ≡ Some m) × (u.part ≤ last_part m) × (holds q (parent m u) ≡ true)
 asked_parent q u a nz = go (shape_of q (pair_of u)) refl (and_parts (knows q (pair_of u)) _ a).1 where
-  go : (o : Option Shape) → shape_of q (pair_of u) ≡ o → can_be_asked q.held o u ≡ true
-      → (m : Shape) × (shape_of q (pair_of u) ≡ Some m) × (u.part ≤ parts_after m) × (holds q (parent m u) ≡ true)
+  go : (o : Option Shape) → shape_of q (pair_of u) ≡ o → is_listed_part q.held o u ≡ true
+      → (m : Shape) × (shape_of q (pair_of u) ≡ Some m) × (u.part ≤ last_part m) × (holds q (parent m u) ≡ true)
   go None e h = absurd (nz (eqb-true u.part 0 h))
   go (Some m) e h = elim (or_cases (u.part == 0) _ h) [
     | inl z ↦ absurd (nz (eqb-true u.part 0 z))
     | inr r ↦
-        let b : (nat_le u.part (parts_after m) ≡ true) × (holds q (parent m u) ≡ true) =
-        and_parts (nat_le u.part (parts_after m)) _ r in
-        (m, e, leb-true u.part (parts_after m) b.0, b.1)
+        let b : (nat_le u.part (last_part m) ≡ true) × (holds q (parent m u) ≡ true) =
+        and_parts (nat_le u.part (last_part m)) _ r in
+        (m, e, leb-true u.part (last_part m) b.0, b.1)
   ]
 
 -- a record of a known publication can be asked for
-record_asked : (q : PlanState) (u : Part) → knows q (pair_of u) ≡ true → u.part ≡ 0 → is_asked q u ≡ true
+record_asked : (q : PlanState) (u : Part) → knows q (pair_of u) ≡ true → u.part ≡ 0 → may_be_asked_for q u ≡ true
 record_asked q u k z = and_from (knows q (pair_of u)) _ k (go (shape_of q (pair_of u))) where
-  go : (o : Option Shape) → can_be_asked q.held o u ≡ true
+  go : (o : Option Shape) → is_listed_part q.held o u ≡ true
   go None = eq-eqb u.part 0 z
   go (Some m) = or_left (u.part == 0) _ (eq-eqb u.part 0 z)
 
 module _ (p : PlanState) (t : Part) (s : PlanIsSound p) (can : CanBeHeld p t) (fresh : holds p t ≡ false)
-    (shape : Option Shape) (reported : is_some shape ≡ (t.part == 0)) (n : Shape)
+    (shape : Option Shape) (last_number : is_some shape ≡ (t.part == 0)) (n : Shape)
     (tells : shape_of (with_part t shape p) (pair_of t) ≡ Some n) where
   abbrev with_it : PlanState
   with_it = with_part t shape p
 
   keeps : Keeps p with_it
-  keeps = keeps_part p t s can fresh shape reported
+  keeps = keeps_part p t s can fresh shape last_number
 
   held_too : (u : Part) → holds with_it u ≡ (eq_by_cmp part_cmp u t || holds p u)
   held_too u = contains-insert_key exact_parts t p.held u
@@ -147,7 +147,7 @@ module _ (p : PlanState) (t : Part) (s : PlanIsSound p) (can : CanBeHeld p t) (f
   is_listed u = parent_number n u.part == t.part
 
   abbrev others : List Part
-  others = map (part_of (pair_of t)) (numbers_from 1 (parts_after n))
+  others = map (part_of (pair_of t)) (numbers_from 1 (last_part n))
 
   -- a shape that is reported now, of a publication of which a part was held
   shape_before : (u : Part) (m : Shape) → holds p u ≡ true → shape_of with_it (pair_of u) ≡ Some m
@@ -164,12 +164,12 @@ module _ (p : PlanState) (t : Part) (s : PlanIsSound p) (can : CanBeHeld p t) (f
       let off : (eq_by_cmp part_cmp u t ≡ false) × (holds p u ≡ false) =
       or_parts (eq_by_cmp part_cmp u t) _ (sym (held_too u) ∙ w.not_held) in
       let k : knows p (pair_of u) ≡ true = (and_parts (knows p (pair_of u)) _ w.asked).0 in
-      let unasked : is_asked p u ≡ true → ⊥ =
+      let unasked : may_be_asked_for p u ≡ true → ⊥ =
       λ asked. true≢false
       (sym (wanted_from p u (record { asked = asked; not_held = off.1; not_hidden = w.not_hidden }))
       ∙ not-true (is_wanted p u) b.0) in
       let nz : u.part ≡ 0 → ⊥ = λ z. unasked (record_asked p u k z) in
-      let m : (m : Shape) × (shape_of with_it (pair_of u) ≡ Some m) × (u.part ≤ parts_after m)
+      let m : (m : Shape) × (shape_of with_it (pair_of u) ≡ Some m) × (u.part ≤ last_part m)
       × (holds with_it (parent m u) ≡ true) =
       asked_parent with_it u w.asked nz in
       let by_it : parent m.0 u ≡ t =
@@ -185,24 +185,24 @@ module _ (p : PlanState) (t : Part) (s : PlanIsSound p) (can : CanBeHeld p t) (f
       let number : parent_number n u.part ≡ t.part =
       ap (λ (k : Shape). parent_number k u.part) (sym same) ∙ ap (λ (v : Part). v.part) by_it in
       let there : u ≡ part_of (pair_of t) u.part = ap (λ (q : Pair). part_of q u.part) at in
-      let few : u.part ≤ parts_after n = subst (λ (k : Shape). u.part ≤ parts_after k) same m.2 in
+      let few : u.part ≤ last_part n = subst (λ (k : Shape). u.part ≤ last_part k) same m.2 in
       and_from (is_listed u) _ (eq-eqb (parent_number n u.part) t.part number)
       (contains_in exact_parts others u
       (subst (λ (v : Part). In v others) (sym there)
-      (in_map (part_of (pair_of t)) (numbers_from 1 (parts_after n)) u.part
-      (in_numbers 1 (parts_after n) u.part (some u.part nz) (omega (arith, few)))))) where
+      (in_map (part_of (pair_of t)) (numbers_from 1 (last_part n)) u.part
+      (in_numbers 1 (last_part n) u.part (some u.part nz) (omega (arith, few)))))) where
         some : (x : ℕ) → (x ≡ 0 → ⊥) → 1 ≤ x
         some zero h = absurd (h refl)
         some (suc x) h = omega arith
 
   -- a part that it lists
-  module _ (x : ℕ) (from : 1 ≤ x) (to : x ≤ parts_after n) (number : parent_number n x ≡ t.part) where
+  module _ (x : ℕ) (from : 1 ≤ x) (to : x ≤ last_part n) (number : parent_number n x ≡ t.part) where
     abbrev child : Part
     child = part_of (pair_of t) x
 
-    unasked_yet : is_asked p child ≡ true → ⊥
+    unasked_yet : may_be_asked_for p child ≡ true → ⊥
     unasked_yet a =
-        let m : (m : Shape) × (shape_of p (pair_of t) ≡ Some m) × (x ≤ parts_after m)
+        let m : (m : Shape) × (shape_of p (pair_of t) ≡ Some m) × (x ≤ last_part m)
         × (holds p (parent m child) ≡ true) =
         asked_parent p child a (λ z. omega (arith, z, from)) in
         let same : m.0 ≡ n = same_some (sym (keeps.shapes (pair_of t) m.0 m.1) ∙ tells) in
@@ -215,7 +215,7 @@ module _ (p : PlanState) (t : Part) (s : PlanIsSound p) (can : CanBeHeld p t) (f
         let k : knows p (pair_of t) ≡ true = (and_parts (knows p (pair_of t)) _ can.asked).0 in
         let other : eq_by_cmp part_cmp child t ≡ false =
         false_from_ne_true (eq_by_cmp part_cmp child t) (λ e.
-        unasked_yet (ap (is_asked p) (eq_same exact_parts child t e) ∙ can.asked)) in
+        unasked_yet (ap (may_be_asked_for p) (eq_same exact_parts child t e) ∙ can.asked)) in
         and_from (not (is_wanted p child)) _
         (not_from_false (is_wanted p child)
         (false_from_ne_true (is_wanted p child) (λ w. unasked_yet (wanted_is_asked p child w))))
@@ -234,9 +234,9 @@ module _ (p : PlanState) (t : Part) (s : PlanIsSound p) (can : CanBeHeld p t) (f
       → (not (is_wanted p u) && is_wanted with_it u) ≡ true
   from_listed u h =
       let b : (is_listed u ≡ true) × (contains part_cmp others u ≡ true) = and_parts (is_listed u) _ h in
-      let r : (x : ℕ) × (In x (numbers_from 1 (parts_after n))) × (u ≡ part_of (pair_of t) x) =
-      from_map (part_of (pair_of t)) (numbers_from 1 (parts_after n)) u (in_contains exact_parts others u b.1) in
-      let l : (1 ≤ r.0) × (r.0 < 1 + parts_after n) = from_numbers 1 (parts_after n) r.0 r.1 in
+      let r : (x : ℕ) × (In x (numbers_from 1 (last_part n))) × (u ≡ part_of (pair_of t) x) =
+      from_map (part_of (pair_of t)) (numbers_from 1 (last_part n)) u (in_contains exact_parts others u b.1) in
+      let l : (1 ≤ r.0) × (r.0 < 1 + last_part n) = from_numbers 1 (last_part n) r.0 r.1 in
       let at : u.part ≡ r.0 = ap (λ (v : Part). v.part) r.2 in
       let number : parent_number n r.0 ≡ t.part =
       ap (parent_number n) (sym at) ∙ eqb-true (parent_number n u.part) t.part b.0 in
@@ -247,7 +247,7 @@ module _ (p : PlanState) (t : Part) (s : PlanIsSound p) (can : CanBeHeld p t) (f
   new_parts =
       same_sets exact_parts (filter (λ u. not (is_wanted p u)) (wanted with_it)) (filter is_listed others)
       (rises_filter exact_parts.total (λ u. not (is_wanted p u)) (wanted with_it) (wanted_rises with_it))
-      (rises_filter exact_parts.total is_listed others (rises_numbers p (pair_of t) 1 (parts_after n))) (λ u.
+      (rises_filter exact_parts.total is_listed others (rises_numbers p (pair_of t) 1 (last_part n))) (λ u.
       contains-filter exact_parts (λ v. not (is_wanted p v)) (wanted with_it) u
       ∙ ap (λ (b : Bool). not (is_wanted p u) && b) (contains-wanted with_it u)
       ∙ both_ways (not (is_wanted p u) && is_wanted with_it u) (is_listed u && contains part_cmp others u) (to_listed u)
@@ -260,7 +260,7 @@ module _ (p : PlanState) (t : Part) (s : PlanIsSound p) (can : CanBeHeld p t) (f
       omega (arith, one, split (eq_by_cmp part_cmp t) (wanted p))
 
   pub more_listed : length (wanted with_it) + 1
-      ≡ length (wanted p) + how_many (λ x. parent_number n x == t.part) 1 (parts_after n)
+      ≡ length (wanted p) + how_many (λ x. parent_number n x == t.part) 1 (last_part n)
   more_listed =
       let one : length (filter (eq_by_cmp part_cmp t) (wanted p)) ≡ 1 = ap length only_it in
       omega (
@@ -269,5 +269,5 @@ module _ (p : PlanState) (t : Part) (s : PlanIsSound p) (can : CanBeHeld p t) (f
         split (is_wanted p) (wanted with_it),
         split (eq_by_cmp part_cmp t) (wanted p),
         ap length old_parts,
-        ap length new_parts ∙ made_of (part_of (pair_of t)) is_listed (numbers_from 1 (parts_after n)),
+        ap length new_parts ∙ made_of (part_of (pair_of t)) is_listed (numbers_from 1 (last_part n)),
       )

@@ -25,7 +25,7 @@ use Rattle.repo_plan.proofs.Held.{part_as_number, tells}
 use Rattle.repo_plan.proofs.Views.{holds_is}
 use Rattle.repo_plan.specs.declared.plan.Plan.TheInside.{Inside}
 use Rattle.repo_plan.specs.PlanFields.{holdings, is_noted, IsPlan}
-use Rattle.repo_plan.specs.Parts.{parts_after}
+use Rattle.repo_plan.specs.Parts.{last_part}
 
 -- ---- parts of one publication, and of a later one
 
@@ -190,10 +190,10 @@ module _ (p : PlanState) (s : PlanIsSound p) (t : Part) where
 -- ---- what no held record counts isn't held
 
 pub beyond_last : (p : Inside) (i : IsPlan p) (pair : Pair) (x : ℕ) (shape : Shape)
-    → shape_of (holdings p) pair ≡ Some shape → parts_after shape < x → holds (holdings p) (part_of pair x) ≡ false
+    → shape_of (holdings p) pair ≡ Some shape → last_part shape < x → holds (holdings p) (part_of pair x) ≡ false
 beyond_last p i pair x shape e l =
     holds_is p i (part_of pair x)
     ∙ and_right (is_noted p.done.runs p.held.runs (pair, x)) _
     (ap (λ (o : Option Shape). tells o (part_of pair x)) e
-    ∙ false_from_ne_true (nat_le x (parts_after shape))
-    (λ h. let le = leb-true x (parts_after shape) h in absurd (omega (arith, le, l))))
+    ∙ false_from_ne_true (nat_le x (last_part shape))
+    (λ h. let le = leb-true x (last_part shape) h in absurd (omega (arith, le, l))))

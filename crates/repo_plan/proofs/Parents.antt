@@ -3,7 +3,7 @@ use Rattle.std.proofs.Common.{◌≡◌, ℕ, ◌+◌, ◌-◌, ◌*◌, ◌/◌
 use Rattle.std.proofs.Common.{arith}
 use Rattle.std.proofs.lemmas.Bool.{or_left, or_right, or_parts, le-leb, lt-leb, leb-false, eq-eqb, eqb-true, eqb-false}
 use Rattle.std.specs.Prelude.{nat_le, ◌==◌, ◌↔◌}
-use Rattle.repo_plan.specs.Parts.{Shape, IsShape, ListsInTurn, most_listed, parts_after, parent_number}
+use Rattle.repo_plan.specs.Parts.{Shape, IsShape, ListsInTurn, most_listed, last_part, parent_number}
 
 -- what lists a part, by whether it is the record
 abbrev listed_by : Shape → ℕ → Bool → ℕ
@@ -49,7 +49,7 @@ module _ (shape : Shape) (is : IsShape shape) (some : 1 ≤ shape.index) where
         let following : most_listed < shape.segments = leb-false shape.segments most_listed h in
         (omega (arith, many, following), omega (arith, many, following))
 
-listed : (shape : Shape) → IsShape shape → (x : ℕ) → x ≤ parts_after shape → parent_number shape x ≤ shape.index
+listed : (shape : Shape) → IsShape shape → (x : ℕ) → x ≤ last_part shape → parent_number shape x ≤ shape.index
 listed shape is x l = go (shape.index == 0 || nat_le x shape.index) refl where
   go : (b : Bool) → (shape.index == 0 || nat_le x shape.index) ≡ b → listed_by shape x b ≤ shape.index
   go true h = omega arith

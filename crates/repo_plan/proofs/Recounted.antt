@@ -18,8 +18,8 @@ use Rattle.sorted_lists.proofs.Sets.{In, in_contains, contains_in, contains-filt
 use Rattle.sorted_lists.proofs.Sets.{in_map, before_each}
 use Rattle.repo_plan.specs.Counts.{how_many}
 use Rattle.repo_plan.specs.Parts.{Pair, Shape, part_cmp, pair_cmp, pair_of, part_of}
-use Rattle.repo_plan.specs.Plan.{PlanState, knows, holds, hides, shape_of, can_be_asked, is_wanted, is_in, is_done}
-use Rattle.repo_plan.specs.Plan.{is_complete, wanted, raises, hides_too}
+use Rattle.repo_plan.specs.Plan.{PlanState, knows, holds, hides, shape_of, is_listed_part, is_wanted, is_in, is_done}
+use Rattle.repo_plan.specs.Plan.{is_complete, wanted, raises, after_hide}
 use Rattle.repo_plan.specs.Sound.{PlanIsSound}
 use Rattle.repo_plan.proofs.Orders.{exact_parts, exact_pairs}
 use Rattle.repo_plan.proofs.Counts.{made_of}
@@ -35,33 +35,33 @@ split f xs = sym (length-filter_both f (λ x. not (f x)) (λ x. refl) xs)
 -- ---- a publication is hidden
 
 module _ (p : PlanState) (pair : Pair) where
-  still_wanted : (u : Part) (b : Bool) → is_in pair u ≡ b → is_wanted (hides_too pair p) u ≡ (not b && is_wanted p u)
+  still_wanted : (u : Part) (b : Bool) → is_in pair u ≡ b → is_wanted (after_hide pair p) u ≡ (not b && is_wanted p u)
   still_wanted u true e =
-      let here : hides (hides_too pair p) (pair_of u) ≡ true =
+      let here : hides (after_hide pair p) (pair_of u) ≡ true =
       hidden_too pair p (pair_of u)
       ∙ or_left (eq_by_cmp pair_cmp (pair_of u) pair) _ (eq_turned exact_pairs (pair_of u) pair ∙ e) in
-      false_from_ne_true (is_wanted (hides_too pair p) u) (λ h.
-      true≢false (sym here ∙ (wanted_parts (hides_too pair p) u h).not_hidden))
+      false_from_ne_true (is_wanted (after_hide pair p) u) (λ h.
+      true≢false (sym here ∙ (wanted_parts (after_hide pair p) u h).not_hidden))
   still_wanted u false e =
-      let hidden : hides (hides_too pair p) (pair_of u) ≡ hides p (pair_of u) =
+      let hidden : hides (after_hide pair p) (pair_of u) ≡ hides p (pair_of u) =
       hidden_too pair p (pair_of u)
       ∙ ap (λ (b : Bool). b || hides p (pair_of u)) (eq_turned exact_pairs (pair_of u) pair ∙ e) in
       λ i. asked_other pair p u e i && (not (held_other pair p u e i) && not (hidden i))
 
-  wanted_hidden : wanted (hides_too pair p) ≡ filter (λ u. not (is_in pair u)) (wanted p)
+  wanted_hidden : wanted (after_hide pair p) ≡ filter (λ u. not (is_in pair u)) (wanted p)
   wanted_hidden =
-      same_sets exact_parts (wanted (hides_too pair p)) (filter (λ u. not (is_in pair u)) (wanted p))
-      (wanted_rises (hides_too pair p))
+      same_sets exact_parts (wanted (after_hide pair p)) (filter (λ u. not (is_in pair u)) (wanted p))
+      (wanted_rises (after_hide pair p))
       (rises_filter exact_parts.total (λ u. not (is_in pair u)) (wanted p) (wanted_rises p)) (λ u.
-      contains-wanted (hides_too pair p) u ∙ still_wanted u (is_in pair u) refl
+      contains-wanted (after_hide pair p) u ∙ still_wanted u (is_in pair u) refl
       ∙ ap (λ (b : Bool). not (is_in pair u) && b) (sym (contains-wanted p u))
       ∙ sym (contains-filter exact_parts (λ v. not (is_in pair v)) (wanted p) u))
 
   pub fewer_wanted : length (wanted p)
-      ≡ length (filter (is_in pair) (wanted p)) + length (wanted (hides_too pair p))
+      ≡ length (filter (is_in pair) (wanted p)) + length (wanted (after_hide pair p))
   fewer_wanted = omega (arith, split (is_in pair) (wanted p), ap length wanted_hidden)
 
-  pub fewer_held : length p.held ≡ length (filter (is_in pair) p.held) + length (hides_too pair p).held
+  pub fewer_held : length p.held ≡ length (filter (is_in pair) p.held) + length (after_hide pair p).held
   fewer_held = split (is_in pair) p.held
 
 -- ---- a number goes up
@@ -160,11 +160,11 @@ module _ (publisher seq : ℕ) (p : PlanState) (s : PlanIsSound p) (member : pub
       let b : (is_new u ≡ true) × (is_wanted raised u ≡ true) = and_parts (is_new u) _ h in
       let off : knows p (pair_of u) ≡ false = not-true (knows p (pair_of u)) b.0 in
       let w : IsWanted raised u = wanted_parts raised u b.1 in
-      let a : (knows raised (pair_of u) ≡ true) × (can_be_asked p.held (shape_of p (pair_of u)) u ≡ true) =
+      let a : (knows raised (pair_of u) ≡ true) × (is_listed_part p.held (shape_of p (pair_of u)) u ≡ true) =
       and_parts (knows raised (pair_of u)) _ w.asked in
       let none : shape_of p (pair_of u) ≡ None = unknown_shape (pair_of u) off (shape_of p (pair_of u)) refl in
       let zero_part : u.part ≡ 0 =
-      eqb-true u.part 0 (sym (ap (λ (o : Option Shape). can_be_asked p.held o u) none) ∙ a.1) in
+      eqb-true u.part 0 (sym (ap (λ (o : Option Shape). is_listed_part p.held o u) none) ∙ a.1) in
       let here : (u.publisher ≡ publisher) × (before + 1 ≤ u.seq) × (u.seq ≤ last) =
       known_now (pair_of u) a.0 off in
       let same : u ≡ part_of (publisher, u.seq) 0 =
@@ -203,7 +203,7 @@ module _ (publisher seq : ℕ) (p : PlanState) (s : PlanIsSound p) (member : pub
       (wanted_from raised u (record {
         asked =
             and_from (knows raised (pair_of u)) _ on
-            (ap (λ (o : Option Shape). can_be_asked p.held o u) none
+            (ap (λ (o : Option Shape). is_listed_part p.held o u) none
             ∙ ap (λ (v : Part). v.part == 0) r.2);
         not_held = unknown_unheld u off;
         not_hidden = open_parts.0;
@@ -231,7 +231,7 @@ module _ (publisher seq : ℕ) (p : PlanState) (s : PlanIsSound p) (member : pub
       (λ u.
       contains-filter exact_parts (λ v. not (is_new v)) (wanted raised) u
       ∙ ap (λ (b : Bool). not (is_new u) && b) (contains-wanted raised u)
-      ∙ still_known (knows p (pair_of u)) (knows raised (pair_of u)) (can_be_asked p.held (shape_of p (pair_of u)) u)
+      ∙ still_known (knows p (pair_of u)) (knows raised (pair_of u)) (is_listed_part p.held (shape_of p (pair_of u)) u)
       (not (holds p u) && not (hides p (pair_of u))) (known_still (pair_of u))
       ∙ sym (contains-wanted p u))
 

@@ -16,7 +16,7 @@ use Rattle.sorted_lists.specs.SortedList.{without_key}
 use Rattle.sorted_lists.proofs.MapChanges.{none_value, without_absent}
 use Rattle.sorted_lists.specs.Range.{numbers_from}
 use Rattle.repo_plan.specs.Parts.{Pair, Shape, pair_cmp, part_cmp, part_of, pair_of, parts_of}
-use Rattle.repo_plan.specs.Parts.{IsShape, parts_after, parts_reported}
+use Rattle.repo_plan.specs.Parts.{IsShape, last_part, last_known_part}
 use Rattle.repo_plan.specs.Plan.{holds, hides, shape_of, is_done, is_complete, is_in, with_shape}
 use Rattle.repo_plan.specs.Sound.{PlanIsSound, CanBeHeld}
 use Rattle.sorted_lists.specs.Runs.{Run, RunsState, Number, IsRuns, has, has_number, number_cmp}
@@ -66,7 +66,7 @@ abbrev pub shape_or : Option Shape → Shape
 shape_or None = record { index = 0; segments = 0 }
 shape_or (Some n) = n
 
-pub after_or : (o : Option Shape) → parts_reported o ≡ parts_after (shape_or o)
+pub after_or : (o : Option Shape) → last_known_part o ≡ last_part (shape_or o)
 after_or None = refl
 after_or (Some n) = refl
 
@@ -77,13 +77,13 @@ module _ (p : Inside) (i : IsPlan p) where
   holds_is t = held_has p.done.runs p.held.runs (shapes_of p) i.sound.in_order.shapes t
 
   -- of a part that is reported of
-  pub held_reported : (t : Part) (n : Shape) → shape_of (holdings p) (pair_of t) ≡ Some n → t.part ≤ parts_after n
+  pub held_counted : (t : Part) (n : Shape) → shape_of (holdings p) (pair_of t) ≡ Some n → t.part ≤ last_part n
       → holds (holdings p) t ≡ (has_number nat_cmp p.done (pair_of t) || has_number pair_cmp p.held (number_of t))
-  held_reported t n e l =
+  held_counted t n e l =
       holds_is t
       ∙ ap (λ (o : Option Shape). is_noted p.done.runs p.held.runs (number_of t) && tells o t) e
-      ∙ and_true (is_noted p.done.runs p.held.runs (number_of t)) (nat_le t.part (parts_after n))
-      (le-leb t.part (parts_after n) l)
+      ∙ and_true (is_noted p.done.runs p.held.runs (number_of t)) (nat_le t.part (last_part n))
+      (le-leb t.part (last_part n) l)
 
   pub hides_is : (q : Pair)
       → hides (holdings p) q ≡ (not (is_some (shape_of (holdings p) q)) && has_number nat_cmp p.done q)
@@ -108,10 +108,10 @@ module _ (p : Inside) (i : IsPlan p) where
       ∙ (λ j. ((i.all_done pair ∙ open_yet) j || lacks j) && tells (shape_of (holdings p) pair) (part_of pair x))
 
   -- what is noted of a publication that isn't hidden is reported of
-  noted_reported : (t : Part) → hides (holdings p) (pair_of t) ≡ false
+  noted_counted : (t : Part) → hides (holdings p) (pair_of t) ≡ false
       → is_noted p.done.runs p.held.runs (number_of t) ≡ true
       → is_some (shape_of (holdings p) (pair_of t)) ≡ true
-  noted_reported t open_yet h =
+  noted_counted t open_yet h =
       elim (or_cases (has_number nat_cmp p.done (pair_of t)) (has_number pair_cmp p.held (number_of t)) h) [
         | inl d ↦ whole (shape_of (holdings p) (pair_of t)) refl (sym (i.all_done (pair_of t)) ∙ d)
         | inr l ↦ i.sound.shapes (pair_of t) ∙ (i.sound.held t (i.all_held (number_of t) l)).with_record
@@ -125,9 +125,9 @@ module _ (p : Inside) (i : IsPlan p) where
   -- ---- one more part is held
 
   module _ (t : Part) (can : CanBeHeld (holdings p) t) (fresh : holds (holdings p) t ≡ false) (segments : Option Shape)
-      (reported : is_some segments ≡ (t.part == 0)) (sized : IfSome segments IsShape) where
+      (last_number : is_some segments ≡ (t.part == 0)) (sized : IfSome segments IsShape) where
     sound_more : PlanIsSound (with_part t segments (holdings p))
-    sound_more = sound_part (holdings p) t i.sound can fresh segments reported sized
+    sound_more = sound_part (holdings p) t i.sound can fresh segments last_number sized
 
     there : holds (with_part t segments (holdings p)) t ≡ true
     there =
@@ -146,28 +146,28 @@ module _ (p : Inside) (i : IsPlan p) where
 
     module _ (done : RunsState ℕ) (held : RunsState Pair) (n : Shape)
         (shape : shape_of (with_part t segments (holdings p)) (pair_of t) ≡ Some n)
-        (noted : (q : Number Pair) → (q.0 ≡ pair_of t → q.1 ≤ parts_after n)
+        (noted : (q : Number Pair) → (q.0 ≡ pair_of t → q.1 ≤ last_part n)
         → is_noted done.runs held.runs q
         ≡ (eq_by_cmp (number_cmp pair_cmp) q (number_of t) || is_noted p.done.runs p.held.runs q)) where
-      counts_it : t.part ≤ parts_after n
+      counts_it : t.part ≤ last_part n
       counts_it =
           let asked =
           (and_parts (Rattle.repo_plan.specs.Plan.knows (with_part t segments (holdings p)) (pair_of t)) _
           (sound_more.held t there).asked).1 in
-          let within : t.part ≤ parts_reported (shape_of (with_part t segments (holdings p)) (pair_of t)) =
+          let within : t.part ≤ last_known_part (shape_of (with_part t segments (holdings p)) (pair_of t)) =
           counted (with_part t segments (holdings p)) (shape_of (with_part t segments (holdings p)) (pair_of t)) t
           asked in
-          omega (arith, within, ap parts_reported shape)
+          omega (arith, within, ap last_known_part shape)
 
       some_same : (a b : Shape) → Some a ≡ Some b → a ≡ b
       some_same a b h = cc
 
       -- what was reported before is reported still
-      reported_before : (u : Part) → pair_of u ≡ pair_of t → (m : Shape) → shape_of (holdings p) (pair_of u) ≡ Some m
+      counted_before : (u : Part) → pair_of u ≡ pair_of t → (m : Shape) → shape_of (holdings p) (pair_of u) ≡ Some m
           → m ≡ n
-      reported_before u s m h =
+      counted_before u s m h =
           some_same m n
-          (sym ((keeps_part (holdings p) t i.sound can fresh segments reported).shapes (pair_of u) m h)
+          (sym ((keeps_part (holdings p) t i.sound can fresh segments last_number).shapes (pair_of u) m h)
           ∙ ap (shape_of (with_part t segments (holdings p))) s ∙ shape)
 
       is_held : (u : Part)
@@ -176,14 +176,14 @@ module _ (p : Inside) (i : IsPlan p) where
           ≡ (eq_by_cmp part_cmp u t
           || (is_noted p.done.runs p.held.runs (number_of u) && tells (shape_of (holdings p) (pair_of u)) u))
       is_held u = go (eq_by_cmp pair_cmp (pair_of u) (pair_of t)) refl where
-        here : pair_of u ≡ pair_of t → (b : Bool) → nat_le u.part (parts_after n) ≡ b
+        here : pair_of u ≡ pair_of t → (b : Bool) → nat_le u.part (last_part n) ≡ b
             → (is_noted done.runs held.runs (number_of u) && b)
             ≡ (eq_by_cmp part_cmp u t
             || (is_noted p.done.runs p.held.runs (number_of u)
             && tells (shape_of (holdings p) (pair_of u)) u))
         here s true l =
             and_one (is_noted done.runs held.runs (number_of u))
-            ∙ noted (number_of u) (λ _. leb-true u.part (parts_after n) l)
+            ∙ noted (number_of u) (λ _. leb-true u.part (last_part n) l)
             ∙ (λ j.
             sym (same_part u t) j || known (is_noted p.done.runs p.held.runs (number_of u)) refl j) where
               and_one : (b : Bool) → (b && true) ≡ b
@@ -192,13 +192,13 @@ module _ (p : Inside) (i : IsPlan p) where
 
               counts : (o : Option Shape) → shape_of (holdings p) (pair_of u) ≡ o → is_some o ≡ true → tells o u ≡ true
               counts None e h = absurd (true≢false (sym h))
-              counts (Some m) e h = ap (λ (z : Shape). nat_le u.part (parts_after z)) (reported_before u s m e) ∙ l
+              counts (Some m) e h = ap (λ (z : Shape). nat_le u.part (last_part z)) (counted_before u s m e) ∙ l
 
               known : (b : Bool) → is_noted p.done.runs p.held.runs (number_of u) ≡ b
                   → b ≡ (b && tells (shape_of (holdings p) (pair_of u)) u)
               known true h =
                   sym (counts (shape_of (holdings p) (pair_of u)) refl
-                  (noted_reported u (ap (hides (holdings p)) s ∙ can.not_hidden) h))
+                  (noted_counted u (ap (hides (holdings p)) s ∙ can.not_hidden) h))
               known false h = refl
         here s false l =
             and_none (is_noted done.runs held.runs (number_of u))
@@ -214,13 +214,13 @@ module _ (p : Inside) (i : IsPlan p) where
               apart =
                   false_from_ne_true (eq_by_cmp part_cmp u t)
                   (λ e. true≢false
-                  (sym (le-leb u.part (parts_after n)
-                  (subst (λ (w : Part). w.part ≤ parts_after n) (sym (eq_same exact_parts u t e)) counts_it))
+                  (sym (le-leb u.part (last_part n)
+                  (subst (λ (w : Part). w.part ≤ last_part n) (sym (eq_same exact_parts u t e)) counts_it))
                   ∙ l))
 
               past : (o : Option Shape) → shape_of (holdings p) (pair_of u) ≡ o → tells o u ≡ false
               past None e = refl
-              past (Some m) e = ap (λ (z : Shape). nat_le u.part (parts_after z)) (reported_before u s m e) ∙ l
+              past (Some m) e = ap (λ (z : Shape). nat_le u.part (last_part z)) (counted_before u s m e) ∙ l
 
         go : (b : Bool) → eq_by_cmp pair_cmp (pair_of u) (pair_of t) ≡ b
             → (is_noted done.runs held.runs (number_of u)
@@ -232,7 +232,7 @@ module _ (p : Inside) (i : IsPlan p) where
             let s : pair_of u ≡ pair_of t = eq_same exact_pairs (pair_of u) (pair_of t) e in
             ap (λ (o : Option Shape). is_noted done.runs held.runs (number_of u) && tells o u)
             (ap (shape_of (with_part t segments (holdings p))) s ∙ shape)
-            ∙ here s (nat_le u.part (parts_after n)) refl
+            ∙ here s (nat_le u.part (last_part n)) refl
         go false e =
             let apart : eq_by_cmp part_cmp u t ≡ false =
             false_from_ne_true (eq_by_cmp part_cmp u t)
@@ -269,21 +269,21 @@ module _ (p : Inside) (i : IsPlan p) where
       all_over f g [] h = refl
       all_over f g (x ∷ xs) h = λ j. h x (inl refl) j && all_over f g xs (λ y k. h y (inr k)) j
 
-      pub complete_more : are_noted done.runs held.runs (pair_of t) (parts_after n)
+      pub complete_more : are_noted done.runs held.runs (pair_of t) (last_part n)
           ≡ is_complete (with_part t segments (holdings p)) (pair_of t)
       complete_more =
           all_over (λ x. is_noted done.runs held.runs (pair_of t, x))
-          (holds (with_part t segments (holdings p))) (numbers_from 0 (parts_after n + 1)) (λ x k.
-          let within : x ≤ parts_after n = omega (arith, (from_numbers 0 (parts_after n + 1) x k).1) in
+          (holds (with_part t segments (holdings p))) (numbers_from 0 (last_part n + 1)) (λ x k.
+          let within : x ≤ last_part n = omega (arith, (from_numbers 0 (last_part n + 1) x k).1) in
           let u = part_of (pair_of t) x in
           sym ((λ j. contains part_cmp (sym held_more j) u)
           ∙ held_has done.runs held.runs (with_shape (pair_of t) segments (shapes_of p))
           sound_more.in_order.shapes u
           ∙ ap (λ (o : Option Shape). is_noted done.runs held.runs (pair_of t, x) && tells o u) shape
-          ∙ and_true (is_noted done.runs held.runs (pair_of t, x)) (nat_le x (parts_after n))
-          (le-leb x (parts_after n) within)))
+          ∙ and_true (is_noted done.runs held.runs (pair_of t, x)) (nat_le x (last_part n))
+          (le-leb x (last_part n) within)))
           ∙ ap (λ (o : Option Shape).
-          list_all (holds (with_part t segments (holdings p))) (parts_of (pair_of t) (parts_reported o))) (sym shape)
+          list_all (holds (with_part t segments (holdings p))) (parts_of (pair_of t) (last_known_part o))) (sym shape)
 
       -- no other publication is hidden
       pub hidden_as_before : IsRuns nat_cmp done.runs → (whole : Bool)

@@ -1,6 +1,8 @@
 ghost use Rattle.std.specs.Prelude.{◌≡◌, ◌+◌, ◌<◌, ◌==◌, false, true, not, length, is_some, IfSome, IfOk, OnOk, OnErr};
-ghost use Rattle.repo_plan.specs.Plan.{opening, holds, hides, is_asked, is_claimed, claims_part_in, shape_of};
-ghost use Rattle.repo_plan.specs.Plan.{attempts_of, is_complete, run_ends, raises, holds_too, hides_too, with_attempts};
+ghost use Rattle.repo_plan.specs.Plan.{initial_plan, holds, hides, may_be_asked_for, is_claimed, claims_part_in};
+ghost use Rattle.repo_plan.specs.Plan.{shape_of};
+ghost use Rattle.repo_plan.specs.Plan.{attempts_of, is_complete, run_ends, raises, after_hold, after_hide};
+ghost use Rattle.repo_plan.specs.Plan.{with_attempts};
 ghost use Rattle.repo_plan.specs.Parts.{IsShape, pair_of};
 ghost use Rattle.repo_plan.specs.Sound.{PlanIsSound};
 
@@ -76,7 +78,7 @@ impl Model for Plan {
 impl Plan {
     /// A plan for a group of so many members, which knows of nothing.
     pub fn new(alloc: Global, members: usize) -> Result<Plan, AllocError>
-        ensures { IfOk result (λ plan. plan ≡ opening members) }
+        ensures { IfOk result (λ plan. plan ≡ initial_plan members) }
     {
         Ok(Plan {
             known: vec![in alloc; 0; members]?,
@@ -109,11 +111,11 @@ impl Plan {
     pub fn hold(&mut self, part: Part, shape: Option<Shape>) -> Result<bool, AllocError>
         requires shape { is_some shape ≡ (part.part == 0) }
         requires sized { IfSome shape IsShape }
-        requires asked { is_asked self.old part ≡ true }
+        requires asked { may_be_asked_for self.old part ≡ true }
         requires not_hidden { hides self.old (pair_of part) ≡ false }
         requires not_claimed { is_claimed self.old part ≡ false }
         ensures fresh { IfOk result (λ fresh. fresh ≡ not (holds self.old part)) }
-        ensures ok { OnOk result (self.new ≡ holds_too part shape self.old) }
+        ensures ok { OnOk result (self.new ≡ after_hold part shape self.old) }
         ensures err { OnErr result (self.new ≡ self.old) }
     {
         self.reserve_one_more()?;
@@ -121,7 +123,7 @@ impl Plan {
     }
 
     /// What holds of every plan. Costs nothing, and is called for its clause.
-    pub fn is_sound(&self)
+    pub fn cite_soundness(&self)
         ensures { PlanIsSound self.now }
     {
         let _ = &self.claims;
@@ -133,7 +135,7 @@ impl Plan {
     {
         let publication = (part.publisher, part.seq);
         match self.shape(part.publisher, part.seq) {
-            Some(shape) if u32::from(part.part) <= shape.parts_after() => {
+            Some(shape) if u32::from(part.part) <= shape.last_part() => {
                 self.done.contains(publication) || self.held.contains((publication, part.part))
             }
             _ => false,
@@ -168,7 +170,7 @@ impl Plan {
     /// The attempts of its parts stay.
     pub fn hide(&mut self, publisher: u32, seq: u16) -> Result<(), AllocError>
         requires { claims_part_in self.old (publisher, seq) ≡ false }
-        ensures ok { OnOk result (self.new ≡ hides_too (publisher, seq) self.old) }
+        ensures ok { OnOk result (self.new ≡ after_hide (publisher, seq) self.old) }
         ensures err { OnErr result (self.new ≡ self.old) }
     {
         self.reserve_one_more()?;

@@ -1,6 +1,6 @@
 ghost use Rattle.std.specs.Prelude.{ℕ, ◌≡◌, ◌+◌, ◌≤◌, ◌<◌, ◌==◌, IfSome};
 ghost use Rattle.repo_plan.specs.Parts.{IsShape, most_segments, shape_of_segments};
-ghost use Rattle.repo_plan.specs.Parts.{parts_after, parent_number, parts_reported};
+ghost use Rattle.repo_plan.specs.Parts.{last_part, parent_number, last_known_part};
 ghost use Rattle.repo_plan.specs.Counts.{how_many};
 
 /// What a record says of its publication's parts. Part 0 is the record, the parts from 1 on are the index packets, if
@@ -35,8 +35,8 @@ impl Shape {
     }
 
     /// How many parts there are besides the record.
-    pub fn parts_after(self) -> u32
-        ensures { result ≡ parts_after self }
+    pub fn last_part(self) -> u32
+        ensures { result ≡ last_part self }
     {
         u32::from(self.index) + u32::from(self.segments)
     }
@@ -64,13 +64,13 @@ impl Shape {
 
     // The number after the last part that is listed with this one. The record counts as listed by itself.
     pub(crate) fn end_of_list(self, part: u16) -> u32
-        requires { part ≤ parts_after self }
+        requires { part ≤ last_part self }
         ensures following { part < result }
-        ensures within { result ≤ parts_after self + 1 }
+        ensures within { result ≤ last_part self + 1 }
         ensures same { (x : ℕ) → part ≤ x → x < result → parent_number self x ≡ parent_number self part }
     {
         if self.parent(part) > 0 {
-            self.after_listed_with(part).min(self.parts_after() + 1)
+            self.after_listed_with(part).min(self.last_part() + 1)
         } else if self.index > 0 {
             u32::from(self.index) + 1
         } else {
@@ -81,7 +81,7 @@ impl Shape {
     // How many parts the one of this number lists.
     fn lists(self, part: u16) -> u16
         requires { IsShape self }
-        ensures { result ≡ how_many (λ x. parent_number self x == part) 1 (parts_after self) }
+        ensures { result ≡ how_many (λ x. parent_number self x == part) 1 (last_part self) }
     {
         if part > self.index {
             0
@@ -98,7 +98,7 @@ impl Shape {
 // How many parts the one of this number lists, of a publication whose record says this, or is not held.
 pub(crate) fn listed_by(shape: Option<Shape>, part: u16) -> u16
     requires { IfSome shape IsShape }
-    ensures { IfSome shape (λ n. result ≡ how_many (λ x. parent_number n x == part) 1 (parts_after n)) }
+    ensures { IfSome shape (λ n. result ≡ how_many (λ x. parent_number n x == part) 1 (last_part n)) }
 {
     match shape {
         Some(shape) => shape.lists(part),
@@ -107,11 +107,11 @@ pub(crate) fn listed_by(shape: Option<Shape>, part: u16) -> u16
 }
 
 // How many parts besides the record are known of, of a publication whose record tells this, or is not held.
-pub(crate) fn reported_by(shape: Option<Shape>) -> u32
-    ensures { result ≡ parts_reported shape }
+pub(crate) fn last_known_part(shape: Option<Shape>) -> u32
+    ensures { result ≡ last_known_part shape }
 {
     match shape {
-        Some(shape) => shape.parts_after(),
+        Some(shape) => shape.last_part(),
         None => 0,
     }
 }

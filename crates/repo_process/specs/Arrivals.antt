@@ -1,4 +1,4 @@
--- What a block makes of a process, what is reported of it, and the object that a whole process is.
+-- The process after a block, the answer to it, and the object that a whole process is.
 use Rattle.std.specs.Prelude.{ℕ, Bool, true, false, not, ◌&&◌, List, Vec, map, Option, Some, None, if◌then◌else◌}
 use Rattle.std.specs.Borrow.{Bor}
 use Rattle.ndn_name.specs.Names.{Component}
@@ -9,12 +9,12 @@ use Rattle.repo_process.specs.Processes.{Process, BlockState, missing, is_whole,
 use Rattle.repo_process.specs.Processes.BlockState.{Unknown, Already, Waiting, Whole}
 use Rattle.repo_process.specs.Fields.{blocks_from}
 
--- What is reported of a block.
-abbrev pub reported_of_block : BlockState → declared_state.BlockState
-reported_of_block Unknown = state.Unknown
-reported_of_block Already = state.Complete
-reported_of_block (Waiting p) = state.Kept (missing p)
-reported_of_block (Whole p) = state.Complete
+-- The answer to a block.
+abbrev pub answer_of_block : BlockState → declared_state.BlockState
+answer_of_block Unknown = state.Unknown
+answer_of_block Already = state.Complete
+answer_of_block (Waiting p) = state.Kept (missing p)
+answer_of_block (Whole p) = state.Complete
 
 -- No block is missing any more.
 abbrev pub is_last : BlockState → Bool

@@ -5,7 +5,7 @@ ghost use Rattle.std.specs.List.{All};
 ghost use Rattle.repo_object.specs.Objects.{is_object_name, IsContent, IsObject};
 ghost use Rattle.repo_process.specs.Processes.{Process, starting, has_index, has_block, present, missing, is_whole};
 ghost use Rattle.repo_process.specs.Processes.{with_block, without_block, object_of, closed, block_in};
-ghost use Rattle.repo_process.specs.Arrivals.{reported_of_block, is_last, arrived, whole_object, lent_object, reopened};
+ghost use Rattle.repo_process.specs.Arrivals.{answer_of_block, is_last, arrived, whole_object, lent_object, reopened};
 ghost use Rattle.repo_process.specs.Fields.{blocks_from};
 
 use crate::block_state::BlockState;
@@ -51,7 +51,7 @@ impl Insertion {
         requires few { last - first < 200 }
         ensures { IfOk result (λ insertion. insertion ≡ starting name.now first last) }
     {
-        name.is_sound();
+        name.cite_soundness();
         Ok(Insertion {
             name: name.clone()?,
             first,
@@ -64,7 +64,7 @@ impl Insertion {
     /// Takes a block, unless it is there.
     pub(crate) fn block(&mut self, index: u64, content: &[u8]) -> Result<BlockState, AllocError>
         requires { IsContent content.now }
-        ensures state { IfOk result (λ state. state ≡ reported_of_block (block_in index content.now (Some self.old))) }
+        ensures state { IfOk result (λ state. state ≡ answer_of_block (block_in index content.now (Some self.old))) }
         ensures ok { OnOk result
             (self.new ≡ arrived self.old (block_in index content.now (Some self.old))) }
         ensures err { OnErr result (self.new ≡ self.old) }

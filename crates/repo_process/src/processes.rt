@@ -7,7 +7,7 @@ ghost use Rattle.sorted_lists.specs.SortedList.{Rises, keys, value_of};
 ghost use Rattle.repo_object.specs.Objects.{is_object_name, IsContent, IsObject};
 ghost use Rattle.repo_process.specs.Processes.{Process, has_block, present, object_of, closed, block_state};
 ghost use Rattle.repo_process.specs.Processes.{without_block};
-ghost use Rattle.repo_process.specs.Arrivals.{reported_of_block, is_last, whole_object, lent_object, reopened};
+ghost use Rattle.repo_process.specs.Arrivals.{answer_of_block, is_last, whole_object, lent_object, reopened};
 ghost use Rattle.repo_process.specs.Fields.{blocks_from};
 ghost use Rattle.repo_process.specs.Insertions.{next_number, starts, blocks_process, changes_process};
 
@@ -89,7 +89,7 @@ impl Processes {
     ) -> Result<BlockState, AllocError>
         requires { IsContent content.now }
         ensures state { IfOk result
-            (λ state. state ≡ reported_of_block (block_state self.old.processes process index content.now)) }
+            (λ state. state ≡ answer_of_block (block_state self.old.processes process index content.now)) }
         ensures ok { OnOk result (self.new ≡ blocks_process process index content.now self.old) }
         ensures err { OnErr result (self.new ≡ self.old) }
     {

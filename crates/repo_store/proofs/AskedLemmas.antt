@@ -24,7 +24,7 @@ use Rattle.sorted_lists.proofs.Climbs.{climbs_parts, pairs_climb}
 use Rattle.sorted_lists.proofs.LeastOnes.{le_both, first_same}
 use Rattle.repo_plan.proofs.Orders.{exact_parts}
 use Rattle.repo_store.specs.PacketTable.{Slots, Held}
-use Rattle.repo_store.specs.Indexes.{name_at, key_in, AreInOrder, asks, is_asked, held_part, AreAsked}
+use Rattle.repo_store.specs.Indexes.{name_at, key_in, AreInOrder, asks, name_matches, held_part, AreMatches}
 use Rattle.repo_store.specs.Indexes.{IsFirstOf}
 use Rattle.repo_store.proofs.IndexLemmas.{exact_octets, exact_keys, NameLe, PartLe, names_le, parts_le, IsFrom}
 
@@ -88,7 +88,7 @@ asked_between asked false a b low high h =
 
 module _ (slots : Slots) (held : List Held) (asked : List ℕ) (p : Bool) where
   abbrev pub test : Held → Bool
-  test h = is_asked slots asked p h
+  test h = name_matches slots asked p h
 
   -- of what is held from a name on, what is asked for comes first
   module _ (rest : List Held) (from : IsFrom slots held asked rest) where
@@ -124,7 +124,7 @@ module _ (slots : Slots) (held : List Held) (asked : List ℕ) (p : Bool) where
             ]
       ]
 
-      pub asked_found : AreAsked slots held asked p (take end rest)
+      pub asked_found : AreMatches slots held asked p (take end rest)
       asked_found = record {
         in_order = (climbs_parts exact_keys (key_in slots) end rest from.in_order).0;
         there = λ h i. (
@@ -137,7 +137,7 @@ module _ (slots : Slots) (held : List Held) (asked : List ℕ) (p : Bool) where
 
   -- ---- of the least part
 
-  module _ (found : List Held) (are : AreAsked slots held asked p found) where
+  module _ (found : List Held) (are : AreMatches slots held asked p found) where
     pub least_asked : (r : Option Held) → IsFirstOf found (λ h. true) r → IsFirstOf held test r
     least_asked r first =
         first_same exact_parts held_part (Passes found (λ h. true)) (Passes held test) (λ h i. are.there h i.0)

@@ -27,9 +27,9 @@ use Rattle.repo_store.specs.declared.names.Names.{Names}
 use Rattle.repo_store.specs.Served.{satisfies}
 use Rattle.repo_object.specs.Packets.{IsPacket, packet_name}
 use Rattle.repo_store.specs.PacketTable.{Slots, at, octets_at, Held, entries_of, PacketTableState}
-use Rattle.repo_store.specs.Slots.{is_full_name, has_full_name, KeptIsSound}
-use Rattle.repo_store.specs.Indexes.{name_of, asks, is_asked, held_part, lesser, IsFirstOf, satisfies_held}
-use Rattle.repo_store.specs.NameLayers.{IsIndexOf, is_kept, is_kept_and_asked}
+use Rattle.repo_store.specs.Slots.{is_full_name, has_full_name, HeldIsSound}
+use Rattle.repo_store.specs.Indexes.{name_of, asks, name_matches, held_part, lesser, IsFirstOf, satisfies_held}
+use Rattle.repo_store.specs.NameLayers.{IsIndexOf, is_stored, is_stored_and_matches}
 use Rattle.repo_store.proofs.NameLayerLemmas.{kept_held, held_kept}
 use Rattle.repo_store.proofs.SlotLemmas.{octets_of}
 
@@ -50,18 +50,18 @@ module _ (slots : Slots) (test : List ℕ → Bool) where
 
 module _ (k : PacketTableState) (asked : List ℕ) (p : Bool) (l : Names) (index : IsIndexOf k.slots k.held l) where
   abbrev test : Held → Bool
-  test = is_asked k.slots asked p
+  test = name_matches k.slots asked p
 
   abbrev InLayers : Held → Type 0
   InLayers h =
       Passes l.settled.items test h ⊎ (Passes l.recent.items test h
-      ⊎ Passes l.waiting.items (is_kept_and_asked k asked p) h)
+      ⊎ Passes l.waiting.items (is_stored_and_matches k asked p) h)
 
   from_layers : (h : Held) → InLayers h → Passes k.held test h
   from_layers h (inl s) = (index.settled h s.0, s.1)
   from_layers h (inr (inl r)) = (index.recent h r.0, r.1)
   from_layers h (inr (inr w)) =
-      let both = and_parts (test h) (is_kept k.held h) w.1 in
+      let both = and_parts (test h) (is_stored k.held h) w.1 in
       (kept_held k.held h both.1, both.0)
 
   to_layers : (h : Held) → Passes k.held test h → InLayers h
@@ -69,19 +69,19 @@ module _ (k : PacketTableState) (asked : List ℕ) (p : Bool) (l : Names) (index
     | inl s ↦ inl (s, q.1)
     | inr b ↦ inr (elim (in_append l.recent.items l.waiting.items h b) [
       | inl r ↦ inl (r, q.1)
-      | inr w ↦ inr (w, and_from (test h) (is_kept k.held h) q.1 (held_kept k.held h index.rises q.0))
+      | inr w ↦ inr (w, and_from (test h) (is_stored k.held h) q.1 (held_kept k.held h index.rises q.0))
     ])
   ]
 
   pub first_of_layers : (a b c : Option Held) → IsFirstOf l.settled.items test a → IsFirstOf l.recent.items test b
-      → IsFirstOf l.waiting.items (is_kept_and_asked k asked p) c → IsFirstOf k.held test (lesser a (lesser b c))
+      → IsFirstOf l.waiting.items (is_stored_and_matches k asked p) c → IsFirstOf k.held test (lesser a (lesser b c))
   first_of_layers a b c settled recent waiting =
       first_same exact_parts held_part InLayers (Passes k.held test) from_layers to_layers (lesser a (lesser b c))
       (lesser_first exact_parts held_part (Passes l.settled.items test)
-      (λ h. Passes l.recent.items test h ⊎ Passes l.waiting.items (is_kept_and_asked k asked p) h) a (lesser b c)
+      (λ h. Passes l.recent.items test h ⊎ Passes l.waiting.items (is_stored_and_matches k asked p) h) a (lesser b c)
       settled
       (lesser_first exact_parts held_part (Passes l.recent.items test)
-      (Passes l.waiting.items (is_kept_and_asked k asked p)) b c recent waiting))
+      (Passes l.waiting.items (is_stored_and_matches k asked p)) b c recent waiting))
 
 -- ---- what the tests of names say
 
@@ -166,31 +166,35 @@ module _ (slots : Slots) (name : List Component) (asked : List ℕ) (is_name : I
     (spelled : asked ≡ encoding name)
   where
     test_asks : (p : Bool) (octets : List ℕ) (packet : IsPacket octets) (h : Held) → at slots h.1 ≡ Some octets
-        → (is_asked slots asked p h || has_full_name slots asked h) ≡ satisfies name p octets
+        → (name_matches slots asked p h || has_full_name slots asked h) ≡ satisfies name p octets
     test_asks p octets packet h e =
         ap (λ (o : Option (List ℕ)). asks asked p (name_of o) || is_full_name asked o) e
         ∙ test_asked name asked octets packet is_name spelled p
 
-    pub answer_found : (k : PacketTableState) (p : Bool) (a b : Option Held) → slots ≡ k.slots → KeptIsSound k
-        → IsFirstOf k.held (is_asked slots asked p) a → IsFirstOf k.held (has_full_name slots asked) b
+    pub answer_found : (k : PacketTableState) (p : Bool) (a b : Option Held) → slots ≡ k.slots → HeldIsSound k
+        → IsFirstOf k.held (name_matches slots asked p) a → IsFirstOf k.held (has_full_name slots asked) b
         → IsFirstOf k.held (satisfies_held slots name p) (lesser a b)
     answer_found k p a b is sound named full =
         first_same exact_parts held_part
-        (λ h. Passes k.held (is_asked slots asked p) h ⊎ Passes k.held (has_full_name slots asked) h)
+        (λ h. Passes k.held (name_matches slots asked p) h ⊎ Passes k.held (has_full_name slots asked) h)
         (Passes k.held (satisfies_held slots name p))
         (λ h e. elim e [
-          | inl x ↦ (x.0, sym (agrees h x.0) ∙ or_left (is_asked slots asked p h) (has_full_name slots asked h) x.1)
-          | inr y ↦ (y.0, sym (agrees h y.0) ∙ or_right (is_asked slots asked p h) (has_full_name slots asked h) y.1)
+          | inl x ↦ (x.0, sym (agrees h x.0) ∙ or_left (name_matches slots asked p h) (has_full_name slots asked h) x.1)
+          | inr y ↦ (
+            y.0,
+            sym (agrees h y.0)
+                ∙ or_right (name_matches slots asked p h) (has_full_name slots asked h) y.1,
+          )
         ])
-        (λ h e. elim (or_cases (is_asked slots asked p h) (has_full_name slots asked h) (agrees h e.0 ∙ e.1)) [
+        (λ h e. elim (or_cases (name_matches slots asked p h) (has_full_name slots asked h) (agrees h e.0 ∙ e.1)) [
           | inl x ↦ inl (e.0, x)
           | inr y ↦ inr (e.0, y)
         ]) (lesser a b)
-        (lesser_first exact_parts held_part (Passes k.held (is_asked slots asked p))
+        (lesser_first exact_parts held_part (Passes k.held (name_matches slots asked p))
         (Passes k.held (has_full_name slots asked)) a b named full)
       where
         agrees : (h : Held) → In h k.held
-            → (is_asked slots asked p h || has_full_name slots asked h) ≡ satisfies_held slots name p h
+            → (name_matches slots asked p h || has_full_name slots asked h) ≡ satisfies_held slots name p h
         agrees h i =
             let packet = subst (λ (s : Slots). IsPacket (octets_at s h.1)) (sym is) (sound.packets h i) in
             let some = subst (λ (s : Slots). IsSome (at s h.1)) (sym is) (sound.kept h i) in

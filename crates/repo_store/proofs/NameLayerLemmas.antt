@@ -24,7 +24,7 @@ use Rattle.repo_store.specs.PacketTable.{Slots, at, Held, PacketTableState}
 use Rattle.repo_store.specs.Slots.{held_outside_all}
 use Rattle.repo_store.specs.Indexes.{name_of, Key, key_cmp, key_in, AreInOrder, GainsOne}
 use Rattle.repo_store.specs.NameLayers.{all_of, LayersAreInOrder, HasRoom, HasSame, IsMerged, IsIndexOf, is_left}
-use Rattle.repo_store.specs.NameLayers.{is_slot, is_kept, WaitsStill, taken_out, left_unless}
+use Rattle.repo_store.specs.NameLayers.{is_slot, is_stored, WaitsStill, taken_out, left_unless}
 use Rattle.repo_store.proofs.IndexLemmas.{exact_keys}
 
 -- ---- what the layers have
@@ -120,20 +120,20 @@ is_this_slot slot other e = grind (arith, nat_tests, e)
 its_own_slot : (slot : ℕ) → (slot == slot) ≡ true
 its_own_slot slot = grind (arith, nat_tests)
 
-pub kept_held : (held : List Held) (h : Held) → is_kept held h ≡ true → In h held
+pub kept_held : (held : List Held) (h : Held) → is_stored held h ≡ true → In h held
 kept_held held h e = go (value_of part_cmp held h.0) refl e where
   go : (o : Option ℕ) → value_of part_cmp held h.0 ≡ o → is_slot h.1 o ≡ true → In h held
   go None s t = absurd (true≢false (sym t))
   go (Some other) s t =
       subst (λ (n : ℕ). In (h.0, n) held) (is_this_slot h.1 other t) (there_value exact_parts held h.0 other s)
 
-pub held_kept : (held : List Held) (h : Held) → Rises part_cmp (keys held) → In h held → is_kept held h ≡ true
+pub held_kept : (held : List Held) (h : Held) → Rises part_cmp (keys held) → In h held → is_stored held h ≡ true
 held_kept held h rises i = ap (is_slot h.1) (value_there exact_parts held h rises i) ∙ its_own_slot h.1
 
 -- what is left of the layers where what is held no more waits no more
 pub index_looked_through : (slots : Slots) (held : List Held) (index after : Names) → IsIndexOf slots held index
     → after.settled.items ≡ index.settled.items → after.recent.items ≡ index.recent.items
-    → after.waiting.items ≡ filter (is_kept held) index.waiting.items → HaveSame (all_of after) held
+    → after.waiting.items ≡ filter (is_stored held) index.waiting.items → HaveSame (all_of after) held
 index_looked_through slots held index after indexed settled_is recent_is waiting_is = same_then
     (same_is (all_of after) (settled ++ (recent ++ waits)) (λ j. settled_is j ++ (recent_is j ++ waiting_is j)))
     (record {
@@ -141,7 +141,7 @@ index_looked_through slots held index after indexed settled_is recent_is waiting
         | inl s ↦ indexed.settled h s
         | inr b ↦ elim (in_append recent waits h b) [
           | inl r ↦ indexed.recent h r
-          | inr w ↦ kept_held held h (in_filtered (is_kept held) waiting h w).1
+          | inr w ↦ kept_held held h (in_filtered (is_stored held) waiting h w).1
         ]
       ];
       back = λ h i. elim (in_append settled (recent ++ waiting) h (indexed.all h i)) [
@@ -151,7 +151,7 @@ index_looked_through slots held index after indexed settled_is recent_is waiting
               | inl r ↦ append_left recent waits h r
               | inr w ↦
                   append_right recent waits h
-                  (in_filter (is_kept held) waiting h w (held_kept held h indexed.rises i))
+                  (in_filter (is_stored held) waiting h w (held_kept held h indexed.rises i))
             ])
       ];
     })
@@ -166,7 +166,7 @@ index_looked_through slots held index after indexed settled_is recent_is waiting
     waiting = index.waiting.items
 
     waits : List Held
-    waits = filter (is_kept held) waiting
+    waits = filter (is_stored held) waiting
 
 -- whether a part that was held still is, however that is found out
 looked_up : (pairs : List Pair) (held : List Held) (h : Held) → In h held

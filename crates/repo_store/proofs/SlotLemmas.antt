@@ -26,7 +26,7 @@ use Rattle.repo_object.specs.Packets.{IsPacket}
 use Rattle.repo_store.specs.PacketTable.{fingerprint_of, Slots, at, octets_at, fingerprint_at, Held, PacketTableState}
 use Rattle.repo_store.specs.Slots.{IsHeldIn, AreSlots, KeepsOne, fingerprinted_cmp, fingerprinted, AreFingerprints}
 use Rattle.repo_store.specs.Slots.{IsUsed, is_sought}
-use Rattle.repo_store.specs.Slots.{is_sought_at, IsKeptIn, IsKept, KeptIsSound}
+use Rattle.repo_store.specs.Slots.{is_sought_at, IsKeptIn, IsKept, HeldIsSound}
 use Rattle.repo_store.specs.Indexes.{GainsOne, IsFirstOf}
 use Rattle.repo_store.proofs.FingerprintLemmas.{exact_fingerprints, fingerprint_only}
 
@@ -51,7 +51,7 @@ octets_of (Some x) h = refl
 abbrev pub seen : Inside → PacketTableState
 seen k = record { slots = k.packets.slots; held = k.parts.entries; spare = k.spare }
 
-pub sound_seen : (k : Inside) → IsKept k → KeptIsSound (seen k)
+pub sound_seen : (k : Inside) → IsKept k → HeldIsSound (seen k)
 sound_seen k kept = record {
   rises = kept.in_order;
   kept = kept.slots.kept;

@@ -18,7 +18,7 @@ use Rattle.repo_plan.specs.Plan.{is_in}
 use Rattle.repo_store.specs.StoreList.{packets_in, packets_outside, is_in_any, packets_in_any, packets_outside_all}
 use Rattle.repo_store.specs.StoreList.{with_packet, StoreIsSound}
 use Rattle.repo_store.specs.PacketTable.{Slots, at, octets_at, Held, entries_of, PacketTableState}
-use Rattle.repo_store.specs.Slots.{KeptIsSound}
+use Rattle.repo_store.specs.Slots.{HeldIsSound}
 
 abbrev Packets : Type 0
 Packets = List (Part × List ℕ)
@@ -47,7 +47,7 @@ put_fresh part octets packets fresh =
 
 -- ---- what every store keeps
 
-pub sound_of : (k : PacketTableState) → KeptIsSound k → StoreIsSound (entries_of k.slots k.held)
+pub sound_of : (k : PacketTableState) → HeldIsSound k → StoreIsSound (entries_of k.slots k.held)
 sound_of k sound = record {
   in_order = subst (Rises part_cmp) (sym (keys-revalued part_cmp (octets_at k.slots) k.held)) sound.rises;
   are_data = all_in (λ e. IsOk (data_of e.1)) (entries_of k.slots k.held) (λ e i.

@@ -76,15 +76,15 @@ asks asked true name = starts_with nat_eq name asked
 asks asked false name = pointwise nat_eq name asked
 
 -- The same of the name of its packet.
-abbrev pub is_asked : Slots → List ℕ → Bool → Held → Bool
-is_asked slots asked can_be_prefix h = asks asked can_be_prefix (name_at slots h)
+abbrev pub name_matches : Slots → List ℕ → Bool → Held → Bool
+name_matches slots asked can_be_prefix h = asks asked can_be_prefix (name_at slots h)
 
 -- Of what is held, these are all that is asked for, in order.
-pub record AreAsked (slots : Slots) (held : List Held) (asked : List ℕ) (can_be_prefix : Bool)
+pub record AreMatches (slots : Slots) (held : List Held) (asked : List ℕ) (can_be_prefix : Bool)
     (found : List Held) : Type 0 where
   pub in_order : AreInOrder slots found
-  pub there : (h : Held) → In h found → Passes held (is_asked slots asked can_be_prefix) h
-  pub back : (h : Held) → Passes held (is_asked slots asked can_be_prefix) h → In h found
+  pub there : (h : Held) → In h found → Passes held (name_matches slots asked can_be_prefix) h
+  pub back : (h : Held) → Passes held (name_matches slots asked can_be_prefix) h → In h found
 
 -- One more is among these.
 abbrev pub GainsOne : Held → List Held → List Held → Type 0

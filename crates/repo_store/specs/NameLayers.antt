@@ -10,7 +10,7 @@ use Rattle.repo_plan.specs.Plan.{is_in}
 use Rattle.repo_store.specs.declared.names.Names.{Names}
 use Rattle.repo_store.specs.PacketTable.{Slots, Held, PacketTableState}
 use Rattle.repo_store.specs.Slots.{held_outside_all}
-use Rattle.repo_store.specs.Indexes.{is_asked, AreInOrder}
+use Rattle.repo_store.specs.Indexes.{name_matches, AreInOrder}
 
 -- All that the layers have.
 abbrev pub all_of : Names → List Held
@@ -44,16 +44,16 @@ is_slot slot None = false
 is_slot slot (Some other) = other == slot
 
 -- Whether it is held: its part is, in its slot.
-abbrev pub is_kept : List Held → Held → Bool
-is_kept held h = is_slot h.1 (value_of part_cmp held h.0)
+abbrev pub is_stored : List Held → Held → Bool
+is_stored held h = is_slot h.1 (value_of part_cmp held h.0)
 
 -- Whether it is held, and its name is asked for.
-abbrev pub is_kept_and_asked : PacketTableState → List ℕ → Bool → Held → Bool
-is_kept_and_asked k asked can_be_prefix h = is_asked k.slots asked can_be_prefix h && is_kept k.held h
+abbrev pub is_stored_and_matches : PacketTableState → List ℕ → Bool → Held → Bool
+is_stored_and_matches k asked can_be_prefix h = name_matches k.slots asked can_be_prefix h && is_stored k.held h
 
 -- What waits and is held waits still.
 abbrev pub WaitsStill : List Held → List Held → List Held → Type 0
-WaitsStill held old new = (h : Held) → In h old → is_kept held h ≡ true → In h new
+WaitsStill held old new = (h : Held) → In h old → is_stored held h ≡ true → In h new
 
 -- The names of what is held, in their layers. Of what waits some may be held no more.
 pub record IsIndexOf (slots : Slots) (held : List Held) (index : Names) : Type 0 where

@@ -101,7 +101,7 @@ is_sought_at slots fingerprint sought h = fingerprint_at slots h.1 == fingerprin
 -- ---- what is put
 
 -- What is held is in order of the parts, and has a Data packet each.
-pub record KeptIsSound (k : PacketTableState) : Type 0 where
+pub record HeldIsSound (k : PacketTableState) : Type 0 where
   pub rises : Rises part_cmp (keys k.held)
   pub kept : (h : Held) → In h k.held → IsSome (at k.slots h.1)
   pub packets : (h : Held) → In h k.held → IsPacket (octets_at k.slots h.1)
@@ -116,7 +116,7 @@ pub record IsPut (part : Part) (octets : List ℕ) (slot : ℕ) (old new : Packe
   pub fresh : contains part_cmp (keys old.held) part ≡ false
   pub held : new.held ≡ with_value part_cmp part slot old.held
   pub keeps : KeepsOne octets old.slots new.slots slot
-  pub sound : KeptIsSound old
+  pub sound : HeldIsSound old
   pub spare : new.spare ≡ old.spare - 1
 
 -- ---- what is dropped

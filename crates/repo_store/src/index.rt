@@ -1,6 +1,6 @@
 ghost use Rattle.std.specs.Prelude.{◌≡◌, ◌+◌, ◌<◌, ◌≤◌, [], length, vec_len, vec_capacity};
-ghost use Rattle.repo_store.specs.Indexes.{name_at, key_cmp, key_in, is_asked, first_part, AreInOrder};
-ghost use Rattle.repo_store.specs.Indexes.{IndexIsInOrder, IsPlace, AreAsked, IsFirstOf, GainsOne};
+ghost use Rattle.repo_store.specs.Indexes.{name_at, key_cmp, key_in, name_matches, first_part, AreInOrder};
+ghost use Rattle.repo_store.specs.Indexes.{IndexIsInOrder, IsPlace, AreMatches, IsFirstOf, GainsOne};
 ghost use Rattle.repo_store.specs.Indexes.{outside_part, IsAlone, IsFoundAt};
 ghost use Rattle.repo_store.specs.Blocks.{piece, AreBlocks};
 ghost use Rattle.repo_store.specs.NameLayers.{is_left, left_of, IsMerged};
@@ -84,7 +84,7 @@ impl Index<'_> {
     pub(crate) fn first(&self, blocks: &[Block], asked: &[u8], can_be_prefix: bool) -> Option<Held>
         requires in_order { IndexIsInOrder self.now }
         requires blocks { AreBlocks self.now.held.now blocks.now }
-        ensures { IsFirstOf self.now.held.now (is_asked self.now.kept.now.slots asked.now can_be_prefix) result }
+        ensures { IsFirstOf self.now.held.now (name_matches self.now.kept.now.slots asked.now can_be_prefix) result }
     {
         let (start, end) = self.asked(asked, can_be_prefix);
         if can_be_prefix {
@@ -99,19 +99,24 @@ impl Index<'_> {
         requires { IndexIsInOrder self.now }
         ensures rises { result.0 ≤ result.1 }
         ensures within { result.1 ≤ length self.now.held.now }
-        ensures asked { AreAsked self.now.kept.now.slots self.now.held.now asked.now can_be_prefix
+        ensures asked { AreMatches self.now.kept.now.slots self.now.held.now asked.now can_be_prefix
             (piece result.0 result.1 self.now.held.now) }
     {
         let start = self.place(asked, FIRST);
         let (_, rest) = self.held.split_at(start);
-        let end = rest.partition_point(|held| is_asked(self.kept, asked, can_be_prefix, held));
+        let end = rest.partition_point(|held| name_matches(self.kept, asked, can_be_prefix, held));
         (start, start + end)
     }
 }
 
 // Whether its packet's name is this, or begins with it where that is asked for.
-pub(crate) fn is_asked(kept: &PacketTable, asked: &[u8], can_be_prefix: bool, held: &Held) -> bool
-    ensures { result ≡ is_asked kept.now.slots asked.now can_be_prefix held.now }
+pub(crate) fn name_matches(
+    kept: &PacketTable,
+    asked: &[u8],
+    can_be_prefix: bool,
+    held: &Held,
+) -> bool
+    ensures { result ≡ name_matches kept.now.slots asked.now can_be_prefix held.now }
 {
     let name = kept.name(held.1);
     if can_be_prefix {

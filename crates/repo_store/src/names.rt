@@ -2,12 +2,12 @@ ghost use Rattle.std.specs.Prelude.{◌≡◌, ◌+◌, ◌≤◌, ℕ, [], ◌+
 ghost use Rattle.std.specs.List.{filter};
 ghost use Rattle.sorted_lists.specs.Members.{HaveSame};
 ghost use Rattle.repo_store.specs.Slots.{held_outside, HasFew};
-ghost use Rattle.repo_store.specs.Indexes.{is_asked, AreInOrder, IsFirstOf, GainsOne, outside_part};
+ghost use Rattle.repo_store.specs.Indexes.{name_matches, AreInOrder, IsFirstOf, GainsOne, outside_part};
 ghost use Rattle.repo_store.specs.NameLayers.{all_of, LayersAreInOrder, HasRoom, HasSame};
-ghost use Rattle.repo_store.specs.NameLayers.{is_kept, is_kept_and_asked, IsIndexOf, WaitsStill, AreAmong};
+ghost use Rattle.repo_store.specs.NameLayers.{is_stored, is_stored_and_matches, IsIndexOf, WaitsStill, AreAmong};
 ghost use Rattle.repo_store.specs.NameLayers.{taken_out, left_unless};
 
-use crate::index::{Index, insert, is_asked, retain, take_out};
+use crate::index::{Index, insert, name_matches, retain, take_out};
 use crate::packet_table::{FEW, Held, PacketTable, lesser};
 use crate::settled::Settled;
 use repo_plan::Part;
@@ -82,7 +82,7 @@ impl Names {
         can_be_prefix: bool,
     ) -> Option<Held>
         requires { IsIndexOf kept.now.slots kept.now.held self.now }
-        ensures { IsFirstOf kept.now.held (is_asked kept.now.slots asked.now can_be_prefix) result }
+        ensures { IsFirstOf kept.now.held (name_matches kept.now.slots asked.now can_be_prefix) result }
     {
         let recent = Index {
             held: &self.recent,
@@ -108,10 +108,10 @@ impl Names {
     fn forget_dropped(&mut self, kept: &PacketTable)
         ensures settled { self.new.settled.items ≡ self.old.settled.items }
         ensures recent { self.new.recent.items ≡ self.old.recent.items }
-        ensures waiting { self.new.waiting.items ≡ filter (is_kept kept.now.held) self.old.waiting.items }
+        ensures waiting { self.new.waiting.items ≡ filter (is_stored kept.now.held) self.old.waiting.items }
         ensures room { (n : ℕ) → HasRoom self.old n → HasRoom self.new n }
     {
-        self.waiting.retain(|held| is_kept(kept, held));
+        self.waiting.retain(|held| is_stored(kept, held));
         self.dropped = 0;
     }
 
@@ -233,11 +233,11 @@ impl Names {
 
 // What is kept of this name, or of one that begins with it where that is asked for, of the least part. All is read.
 fn first_of(held: &[Held], kept: &PacketTable, asked: &[u8], can_be_prefix: bool) -> Option<Held>
-    ensures { IsFirstOf held.now (is_kept_and_asked kept.now asked.now can_be_prefix) result }
+    ensures { IsFirstOf held.now (is_stored_and_matches kept.now asked.now can_be_prefix) result }
 {
     let mut least = None;
     for next in held {
-        if is_kept_and_asked(kept, asked, can_be_prefix, next) {
+        if is_stored_and_matches(kept, asked, can_be_prefix, next) {
             least = lesser(least, Some(*next));
         }
     }
@@ -245,15 +245,15 @@ fn first_of(held: &[Held], kept: &PacketTable, asked: &[u8], can_be_prefix: bool
 }
 
 // Whether it is kept and asked for.
-fn is_kept_and_asked(kept: &PacketTable, asked: &[u8], can_be_prefix: bool, held: &Held) -> bool
-    ensures { result ≡ is_kept_and_asked kept.now asked.now can_be_prefix held.now }
+fn is_stored_and_matches(kept: &PacketTable, asked: &[u8], can_be_prefix: bool, held: &Held) -> bool
+    ensures { result ≡ is_stored_and_matches kept.now asked.now can_be_prefix held.now }
 {
-    is_asked(kept, asked, can_be_prefix, held) && is_kept(kept, held)
+    name_matches(kept, asked, can_be_prefix, held) && is_stored(kept, held)
 }
 
 // Whether it is kept: its part is, in its slot.
-fn is_kept(kept: &PacketTable, held: &Held) -> bool
-    ensures { result ≡ is_kept kept.now.held held.now }
+fn is_stored(kept: &PacketTable, held: &Held) -> bool
+    ensures { result ≡ is_stored kept.now.held held.now }
 {
     match kept.slot_of(held.0) {
         Some(slot) => slot == held.1,

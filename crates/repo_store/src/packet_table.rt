@@ -8,7 +8,7 @@ ghost use Rattle.repo_plan.specs.Parts.{part_cmp};
 ghost use Rattle.repo_store.specs.StoreList.{different_octets};
 ghost use Rattle.sha2.specs.Sha256.{sha256};
 ghost use Rattle.repo_store.specs.PacketTable.{fingerprint_of, at, octets_at, fingerprint_at, entries_of};
-ghost use Rattle.repo_store.specs.Slots.{KeptIsSound, KeepsOne, IsUsed, AreSame, held_outside, held_outside_all};
+ghost use Rattle.repo_store.specs.Slots.{HeldIsSound, KeepsOne, IsUsed, AreSame, held_outside, held_outside_all};
 ghost use Rattle.repo_store.specs.Slots.{is_sought, is_sought_at, has_full_name, IsNextOf, IsKeptIn, IsPut, HasFew};
 ghost use Rattle.repo_store.specs.Indexes.{name_of, lesser, IsFirstOf};
 
@@ -104,7 +104,7 @@ impl PacketTable {
     // How many parts there are.
     pub(crate) fn len(&self) -> usize
         ensures number { result ≡ length self.now.held }
-        ensures sound { KeptIsSound self.now }
+        ensures sound { HeldIsSound self.now }
     {
         self.parts.len()
     }
@@ -119,7 +119,7 @@ impl PacketTable {
     // The slot of a part's packet.
     pub(crate) fn slot_of(&self, part: Part) -> Option<usize>
         ensures found { result ≡ value_of part_cmp self.now.held part }
-        ensures sound { KeptIsSound self.now }
+        ensures sound { HeldIsSound self.now }
     {
         self.parts.get(part)
     }
@@ -190,7 +190,7 @@ impl PacketTable {
     // 34 octets.
     pub(crate) fn first_with_full_name(&self, asked: &[u8]) -> Option<Held>
         ensures found { IsFirstOf self.now.held (has_full_name self.now.slots asked.now) result }
-        ensures sound { KeptIsSound self.now }
+        ensures sound { HeldIsSound self.now }
     {
         let _ = &self.packets;
         let (name, last) = asked.split_last_chunk::<34>()?;
@@ -260,7 +260,7 @@ impl PacketTable {
         ensures held { self.new.held ≡ held_outside_all pairs.now self.old.held }
         ensures same { AreSame self.old self.new }
         ensures spare { self.new.spare ≡ self.old.spare }
-        ensures sound { KeptIsSound self.old }
+        ensures sound { HeldIsSound self.old }
     {
         let before = self.parts.len();
         for pair in pairs {

@@ -1,6 +1,6 @@
 ghost use Rattle.std.specs.Prelude.{◌≡◌, ◌+◌, ◌<◌, ◌≤◌, [], length, OnOk};
 ghost use Rattle.std.specs.List.{remove};
-ghost use Rattle.repo_store.specs.Indexes.{is_asked, AreInOrder, IsFirstOf, outside_part, IsAlone, IsFoundAt};
+ghost use Rattle.repo_store.specs.Indexes.{name_matches, AreInOrder, IsFirstOf, outside_part, IsAlone, IsFoundAt};
 ghost use Rattle.repo_store.specs.NameLayers.{IsMerged, left_of};
 
 use crate::blocks::{BLOCK, Block, make_blocks, shift_blocks};
@@ -74,7 +74,7 @@ impl Settled {
         can_be_prefix: bool,
     ) -> Option<Held>
         requires { AreInOrder kept.now.slots self.now.items }
-        ensures { IsFirstOf self.now.items (is_asked kept.now.slots asked.now can_be_prefix) result }
+        ensures { IsFirstOf self.now.items (name_matches kept.now.slots asked.now can_be_prefix) result }
     {
         let index = Index {
             held: &self.held,

@@ -5,7 +5,7 @@ ghost use Rattle.sorted_lists.specs.SortedList.{keys, contains, value_of};
 ghost use Rattle.repo_plan.specs.Parts.{part_cmp};
 ghost use Rattle.repo_store.specs.StoreList.{with_packet, packets_in, packets_outside, packets_in_any};
 ghost use Rattle.repo_store.specs.StoreList.{packets_outside_all, different_octets, StoreIsSound};
-ghost use Rattle.repo_store.specs.Slots.{KeptIsSound};
+ghost use Rattle.repo_store.specs.Slots.{HeldIsSound};
 ghost use Rattle.repo_store.specs.Indexes.{satisfies_held, IsFirstOf};
 ghost use Rattle.repo_store.specs.NameLayers.{IsIndexOf};
 ghost use Rattle.repo_store.specs.Served.{served};
@@ -236,7 +236,7 @@ fn first_for(
 ) -> Option<Held>
     requires { IsIndexOf kept.now.slots kept.now.held names.now }
     ensures found { IsFirstOf kept.now.held (satisfies_held kept.now.slots name.now can_be_prefix) result }
-    ensures sound { KeptIsSound kept.now }
+    ensures sound { HeldIsSound kept.now }
 {
     let asked = name.octets();
     lesser(

@@ -89,7 +89,7 @@ fn ready(rt: &impl Abort, g: &Group, member: &Member)
     ensures keys { HaveKeys g.now.members }
     ensures draws { member.now.machine.draws < 100000 }
 {
-    g.is_sound();
+    g.cite_soundness();
     assert!(rt; member.vector().members() == g.roster().len());
     assert!(rt; member.next_draw() < 100_000);
 }

@@ -85,7 +85,7 @@ fn ready(rt: &impl Abort, g: &Group, mirror: &Mirror)
     ensures width { length g.now.members.names ≡ length mirror.now.known }
     ensures names { AreShortNames g.now.members.names g.now.name }
 {
-    g.is_sound();
+    g.cite_soundness();
     assert!(rt; g.roster().len() == mirror.vector().members());
 }
 

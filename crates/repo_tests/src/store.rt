@@ -212,7 +212,7 @@ fn is_of(rt: &impl Abort, packet: &Packet, octets: &[u8]) {
 }
 
 // Sees the same of the packet of this number of the first publication, and of what shares it.
-fn is_kept(rt: &(impl Abort + AllocGlobal), store: &Store, number: u16, octets: &[u8]) {
+fn is_stored(rt: &(impl Abort + AllocGlobal), store: &Store, number: u16, octets: &[u8]) {
     let packet = store.packet(part(0, 1, number)).expect(rt, "a packet");
     is_of(rt, packet, octets);
     let shared = packet.share(rt.alloc()).expect(rt, "memory");
@@ -222,8 +222,8 @@ fn is_kept(rt: &(impl Abort + AllocGlobal), store: &Store, number: u16, octets: 
 #[test]
 fn packets_are_shared_between_stores(rt: HostRuntime) {
     let store = sharing(&rt, &stored(&rt));
-    is_kept(&rt, &store, 0, &RECORD);
-    is_kept(&rt, &store, 1, &SEGMENT);
+    is_stored(&rt, &store, 0, &RECORD);
+    is_stored(&rt, &store, 1, &SEGMENT);
     is(&rt, store.packet(part(0, 2, 0)).is_none(), "no packet");
     serves(&rt, &store, &FULL_ASKED, Some(&SEGMENT));
 }

@@ -120,7 +120,7 @@ fn calls_of_one_member() {
     let _: fn(&mut Member) = Member::end_claims;
 }
 
-// What a publication comes to.
+// The parts of a publication.
 type Publishing = Result<Published, PublishRefusal>;
 
 fn calls_of_publishing() {

@@ -109,7 +109,7 @@ fn compare_reported(
 }
 
 #[test]
-fn news_is_reported_once(rt: HostRuntime) {
+fn news_is_announced_once(rt: HostRuntime) {
     let mut catalogue = Catalogue::new(rt.alloc());
     let mut watchers = Watchers::new(rt.alloc());
     compare_reported(&rt, &mut watchers, &mut catalogue);

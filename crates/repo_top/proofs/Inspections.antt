@@ -11,19 +11,19 @@ use Rattle.script_story.specs.declared.ending.Ending.TheVariants.{Done}
 use Rattle.repo_io.specs.declared.status.Status.TheVariants.{Foreign}
 use Rattle.script_story.specs.Answers.{status_of}
 use Rattle.script_report.specs.declared.refusal.Refusal.TheVariants.{Limit}
-use Rattle.script_story.specs.Story.{refused}
-use Rattle.repo_top.specs.Inspection.{decoded_story, inspect_story, lines_story, sound_ending, without_spaces}
+use Rattle.script_story.specs.ScriptRun.{refused}
+use Rattle.repo_top.specs.Inspection.{decoded_run, inspect_run, lines_run, sound_ending, without_spaces}
 
-too_long : (octets : List ℕ) → 16777216 < length octets → inspect_story octets ≡ refused Limit
-unfolding inspect_story
+too_long : (octets : List ℕ) → 16777216 < length octets → inspect_run octets ≡ refused Limit
+unfolding inspect_run
 too_long octets lt = rw (lt-ltb 16777216 (length octets) lt) refl
 
 pub same_inspection : (octets more : List ℕ) → 16777216 < length octets
-    → inspect_story (octets ++ more) ≡ inspect_story octets
+    → inspect_run (octets ++ more) ≡ inspect_run octets
 same_inspection octets more lt =
     too_long (octets ++ more) (omega (arith, length-append octets more)) ∙ sym (too_long octets lt)
 
-pub inspection_takes_whole : (octets : List ℕ) → (inspect_story octets).ending ≡ Done
+pub inspection_takes_whole : (octets : List ℕ) → (inspect_run octets).ending ≡ Done
     → length octets ≤ 16777216
 inspection_takes_whole octets e =
     elim (leb_tells (length octets) 16777216) [
@@ -38,20 +38,20 @@ by_fault None line = λ e. cc
 by_fault (Some fault) line = λ e. cc
 
 by_size : (long : Bool) (octets : List ℕ) (line : ℕ) → status_of
-    (cond long (refused Limit) (lines_story (inspected octets))).ending ≢ Foreign line
+    (cond long (refused Limit) (lines_run (inspected octets))).ending ≢ Foreign line
 by_size true octets line = λ e. cc
 by_size false octets line = by_fault (inspected octets).fault line
 
 by_digits : (decoded : Result (List ℕ) FromHexError) (line : ℕ)
-    → status_of (decoded_story decoded).ending ≢ Foreign line
+    → status_of (decoded_run decoded).ending ≢ Foreign line
 by_digits (Ok octets) line = by_size (ltb 8800 (length octets)) octets line
 by_digits (Err e) line = λ e. cc
 
 by_input : (long : Bool) (input : List ℕ) (line : ℕ) → status_of
-    (cond long (refused Limit) (decoded_story (decode_of (without_spaces input)))).ending ≢ Foreign line
+    (cond long (refused Limit) (decoded_run (decode_of (without_spaces input)))).ending ≢ Foreign line
 by_input true input line = λ e. cc
 by_input false input line = by_digits (decode_of (without_spaces input)) line
 
-pub not_foreign : (input : List ℕ) (line : ℕ) → status_of (inspect_story input).ending ≢ Foreign line
-unfolding inspect_story
+pub not_foreign : (input : List ℕ) (line : ℕ) → status_of (inspect_run input).ending ≢ Foreign line
+unfolding inspect_run
 not_foreign input line = by_input (ltb 16777216 (length input)) input line

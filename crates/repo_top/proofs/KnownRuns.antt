@@ -5,9 +5,9 @@ use Rattle.repo_io.specs.declared.status.Status.{Status}
 use Rattle.repo_io.specs.declared.status.Status.TheVariants.{ReadFault}
 use Rattle.repo_io.specs.Lines.{lines}
 use Rattle.bench_world.specs.Worlds.{GroupState}
-use Rattle.script_story.specs.Judging.{RunEnvironment}
+use Rattle.script_story.specs.Evaluation.{RunEnvironment}
 use Rattle.script_lines.specs.Reading.{HasLine, LineIsBegun}
-use Rattle.script_story.specs.Story.{Reached}
+use Rattle.script_story.specs.ScriptRun.{Reached}
 use Rattle.repo_top.specs.Carrying.{Carried, Finishes, Known, Ran, Stops, Took}
 use Rattle.repo_top.proofs.Runs.{carried_line, carried_read, ran_finished, ran_stopped, ran_unread}
 

@@ -2,7 +2,7 @@ pub mod Numerals
 pub mod Inspections
 pub mod InspectRuns
 pub mod Scripts
-pub mod Stories
+pub mod ScriptRuns
 pub mod Runs
 pub mod KnownRuns
 pub mod Stops

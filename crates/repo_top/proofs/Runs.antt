@@ -18,24 +18,25 @@ use Rattle.script_report.specs.declared.refusal.Refusal.TheVariants.{Limit}
 use Rattle.repo_io.specs.Outside.{GainsText, GainsPrefix}
 use Rattle.repo_io.specs.Lines.{IsWhole, has_feed, lines}
 use Rattle.bench_world.specs.Worlds.{GroupState}
-use Rattle.script_story.specs.Judging.{RunEnvironment, Verdict, foreign, refused, says, unjudged}
+use Rattle.script_story.specs.Evaluation.{RunEnvironment, Verdict, foreign, refused, accepted, not_evaluated}
 use Rattle.script_lines.specs.Reading.{HasLine, LineIsBegun, IsTooLong}
-use Rattle.script_story.specs.Story.{Reached, Story, reached_after, after_text, ended, judged_next, nothing_reached}
-use Rattle.script_story.specs.Story.{story_from, story_of}
-use Rattle.repo_top.specs.Taken.{FallsShortNear, IsTakenNear, LacksText, can_be_judged, end_of_line, lines_so_far}
+use Rattle.script_story.specs.ScriptRun.{Reached, ScriptRun, reached_after, after_text, ended, evaluated_next}
+use Rattle.script_story.specs.ScriptRun.{nothing_reached}
+use Rattle.script_story.specs.ScriptRun.{run_from, run_of}
+use Rattle.repo_top.specs.Taken.{FallsShortNear, IsTakenNear, LacksText, can_be_evaluated, end_of_line, lines_so_far}
 use Rattle.repo_top.specs.Taken.{lines_taken, report_of, report_through, taken}
-use Rattle.repo_top.specs.Carrying.{Carried, Finishes, IsStopping, LeavesWorld, Ran, Stops, StatusReports, Took}
+use Rattle.repo_top.specs.Carrying.{Carried, Finishes, IsStopping, LeavesWorld, Ran, Stops, IsStatusOf, Took}
 use Rattle.repo_io.proofs.LineLaws.{open_line, whole_first}
 use Rattle.repo_io.proofs.Outputs.{prefix_after, prefix_so_far, prefix_whole, nothing_gained}
-use Rattle.repo_top.proofs.Stories.{after_after, first_line_story, goes_on, long_refused, no_lines, refused_story}
+use Rattle.repo_top.proofs.ScriptRuns.{after_after, first_line_run, goes_on, long_refused, no_lines, refused_run}
 
 -- ---- what a status says of a story
 
-pub reports_after : (s : Story) (a b d : Option (List ℕ)) (text : List ℕ) (status : Status) → GainsText a b text
-    → StatusReports s b d status → StatusReports (after_text text s) a d status
+pub reports_after : (s : ScriptRun) (a b d : Option (List ℕ)) (text : List ℕ) (status : Status) → GainsText a b text
+    → IsStatusOf s b d status → IsStatusOf (after_text text s) a d status
 reports_after s a b d text status p t = record {
   ending = t.ending;
-  text = λ reported. Appends-trans a b d text s.text p (t.text reported);
+  text = λ printed. Appends-trans a b d text s.text p (t.text printed);
   prefix = prefix_after a b d text s.text p t.prefix;
 }
 
@@ -53,13 +54,13 @@ module _ (env : RunEnvironment) (held : List ℕ) (r : Reached) (a b : Option (L
     cut = so_far.cut;
     joined = so_far.joined;
     count = so_far.count;
-    judged = so_far.judged;
+    evaluated = so_far.evaluated;
     goes = so_far.goes;
     gained = so_far.gained;
   }
 
-  story_is : story_of env input ≡ after_text so_far.text (story_from env r (lines (held ++ rest)))
-  story_is = ap (story_of env) so_far.parts ∙ ap (story_from env nothing_reached) (so_far.cut (held ++ rest))
+  run_is : run_of env input ≡ after_text so_far.text (run_from env r (lines (held ++ rest)))
+  run_is = ap (run_of env) so_far.parts ∙ ap (run_from env nothing_reached) (so_far.cut (held ++ rest))
       ∙ so_far.goes (lines (held ++ rest))
 
   taken_is : taken input rest ≡ so_far.octets ++ held
@@ -70,14 +71,14 @@ module _ (env : RunEnvironment) (held : List ℕ) (r : Reached) (a b : Option (L
       (arith, ap length whole, length-append prefix rest) in
       rw (size, whole) (take-append_seam prefix rest)
 
-  so_far_is : lines_so_far (taken input rest) ≡ so_far.done ++ filter can_be_judged (lines held)
-  so_far_is = rw taken_is (ap (filter can_be_judged) (so_far.cut held)
-      ∙ filter-append can_be_judged so_far.done (lines held)
-      ∙ ap (λ (t : List (List ℕ)). t ++ filter can_be_judged (lines held)) so_far.judged)
+  so_far_is : lines_so_far (taken input rest) ≡ so_far.done ++ filter can_be_evaluated (lines held)
+  so_far_is = rw taken_is (ap (filter can_be_evaluated) (so_far.cut held)
+      ∙ filter-append can_be_evaluated so_far.done (lines held)
+      ∙ ap (λ (t : List (List ℕ)). t ++ filter can_be_evaluated (lines held)) so_far.evaluated)
 
 -- ---- a line is carried out
 
-judged_whole : (line : List ℕ) → IsWhole line → can_be_judged line ≡ true
+judged_whole : (line : List ℕ) → IsWhole line → can_be_evaluated line ≡ true
 judged_whole line w = or_left (has_feed line) (ltb 32768 (length line))
     (ap has_feed w.is ∙ list_any-append (λ octet. eqb octet 10) w.prefix (10 ∷ [])
     ∙ or_right (has_feed w.prefix) true refl)
@@ -105,10 +106,11 @@ module _ (env : RunEnvironment) (held : List ℕ) (r next : Reached) (a b d : Op
           so_far.count,
           length-append so_far.done (line ∷ []),
         );
-        judged = filter-append can_be_judged so_far.done (line ∷ []) ∙ rw (so_far.judged, judged_whole line whole) refl;
-        goes = λ others. ap (story_from env nothing_reached) (append_assoc so_far.done (line ∷ []) others)
+        evaluated = filter-append can_be_evaluated so_far.done (line ∷ [])
+            ∙ rw (so_far.evaluated, judged_whole line whole) refl;
+        goes = λ others. ap (run_from env nothing_reached) (append_assoc so_far.done (line ∷ []) others)
             ∙ so_far.goes (line ∷ others) ∙ ap (after_text so_far.text) (goes_on env r line next b d took others)
-            ∙ after_after so_far.text took.report (story_from env next others);
+            ∙ after_after so_far.text took.report (run_from env next others);
         gained = Appends-trans a b d so_far.text took.report so_far.gained took.gained;
       }
 
@@ -119,7 +121,7 @@ module _ (env : RunEnvironment) (held : List ℕ) (r next : Reached) (a b d : Op
     by_line (inl whole) = with_line whole
     by_line (inr long) =
         let all : take count held ≡ held ++ [] = take_all count held (omega (arith, long.1)) ∙ sym (append-nil held) in
-        let why : says took.report next.state ≡ refused Limit = sym took.verdict ∙ ap (judged_next env r) all
+        let why : accepted took.report next.state ≡ refused Limit = sym took.verdict ∙ ap (evaluated_next env r) all
         ∙ long_refused env r held [] long.0 in
         absurd cc
 
@@ -127,74 +129,74 @@ module _ (env : RunEnvironment) (held : List ℕ) (r next : Reached) (a b d : Op
 
 -- fewer lines have no longer report
 fewer_lines : (env : RunEnvironment) (r : Reached) (prefix others : List (List ℕ))
-    → length (story_from env r prefix).text ≤ length (story_from env r (prefix ++ others)).text
-fewer_lines env r [] others = let none = ap (λ (s : Story). length s.text) (no_lines env r) in omega (arith, none)
+    → length (run_from env r prefix).text ≤ length (run_from env r (prefix ++ others)).text
+fewer_lines env r [] others = let none = ap (λ (s : ScriptRun). length s.text) (no_lines env r) in omega (arith, none)
 fewer_lines env r (line ∷ prefix) others =
-    by_verdict (λ next. fewer_lines env next prefix others) (judged_next env r line) refl where
+    by_verdict (λ next. fewer_lines env next prefix others) (evaluated_next env r line) refl where
       by_verdict : ((next : Reached)
-          → length (story_from env next prefix).text ≤ length (story_from env next (prefix ++ others)).text)
-          → (v : Verdict) → judged_next env r line ≡ v
-          → length (story_from env r (line ∷ prefix)).text
-          ≤ length (story_from env r (line ∷ (prefix ++ others))).text
-      by_verdict fewer (says report next) e =
+          → length (run_from env next prefix).text ≤ length (run_from env next (prefix ++ others)).text)
+          → (v : Verdict) → evaluated_next env r line ≡ v
+          → length (run_from env r (line ∷ prefix)).text
+          ≤ length (run_from env r (line ∷ (prefix ++ others))).text
+      by_verdict fewer (accepted report next) e =
           let after_line = reached_after r line report next in
           rw (
-            refused_story env r line (says report next) prefix e,
-            refused_story env r line (says report next) (prefix ++ others) e,
+            refused_run env r line (accepted report next) prefix e,
+            refused_run env r line (accepted report next) (prefix ++ others) e,
           )
           (omega (
             arith,
             fewer after_line,
-            length-append report (story_from env after_line prefix).text,
-            length-append report (story_from env after_line (prefix ++ others)).text,
+            length-append report (run_from env after_line prefix).text,
+            length-append report (run_from env after_line (prefix ++ others)).text,
           ))
       by_verdict fewer (refused why) e =
           rw (
-            refused_story env r line (refused why) prefix e,
-            refused_story env r line (refused why) (prefix ++ others) e,
+            refused_run env r line (refused why) prefix e,
+            refused_run env r line (refused why) (prefix ++ others) e,
           ) (omega arith)
       by_verdict fewer foreign e =
-          rw (refused_story env r line foreign prefix e, refused_story env r line foreign (prefix ++ others) e)
+          rw (refused_run env r line foreign prefix e, refused_run env r line foreign (prefix ++ others) e)
           (omega arith)
-      by_verdict fewer unjudged e =
-          rw (refused_story env r line unjudged prefix e, refused_story env r line unjudged (prefix ++ others) e)
+      by_verdict fewer not_evaluated e =
+          rw (refused_run env r line not_evaluated prefix e, refused_run env r line not_evaluated (prefix ++ others) e)
           (omega arith)
 
 -- ---- how a run ends
 
-begun_judged : (held : List ℕ) → LineIsBegun held → filter can_be_judged (lines held) ≡ []
+begun_judged : (held : List ℕ) → LineIsBegun held → filter can_be_evaluated (lines held) ≡ []
 unfolding lines
 begun_judged [] h = refl
 begun_judged (o ∷ os) h =
     let one : lines (o ∷ os) ≡ (o ∷ os) ∷ [] = open_line (o ∷ os) (λ e. cc) h.free in
-    let not_yet : can_be_judged (o ∷ os) ≡ false = or_from (has_feed (o ∷ os)) (ltb 32768 (length (o ∷ os))) h.free
+    let not_yet : can_be_evaluated (o ∷ os) ≡ false = or_from (has_feed (o ∷ os)) (ltb 32768 (length (o ∷ os))) h.free
     (le-ltb 32768 (length (o ∷ os)) h.short) in
-    ap (filter can_be_judged) one ∙ rw not_yet refl
+    ap (filter can_be_evaluated) one ∙ rw not_yet refl
 
 -- the first line that can be judged, and those after it
-pub record Judged (line : List ℕ) (ls : List (List ℕ)) : Type 0 where
+pub record Evaluated (line : List ℕ) (ls : List (List ℕ)) : Type 0 where
   pub others : List (List ℕ)
   pub are : ls ≡ line ∷ others
 
 first_judged : (held : List ℕ) (count : ℕ) → HasLine count held
-    → Judged (take count held) (filter can_be_judged (lines held))
+    → Evaluated (take count held) (filter can_be_evaluated (lines held))
 first_judged held count h = by_line h.line where
   by_line : IsWhole (take count held) ⊎ (IsTooLong held × (count ≡ length held))
-      → Judged (take count held) (filter can_be_judged (lines held))
+      → Evaluated (take count held) (filter can_be_evaluated (lines held))
   by_line (inl whole) = record {
-    others = filter can_be_judged (lines (drop count held));
-    are = ap (λ (t : List ℕ). filter can_be_judged (lines t)) (sym (take-append-drop count held))
-        ∙ ap (filter can_be_judged) (whole_first (take count held) (drop count held) whole)
+    others = filter can_be_evaluated (lines (drop count held));
+    are = ap (λ (t : List ℕ). filter can_be_evaluated (lines t)) (sym (take-append-drop count held))
+        ∙ ap (filter can_be_evaluated) (whole_first (take count held) (drop count held) whole)
         ∙ rw (judged_whole (take count held) whole) refl;
   }
   by_line (inr long) =
       let all : take count held ≡ held = take_all count held (omega (arith, long.1)) in
       let some : held ≢ [] = λ e. let none = ap length e in omega (arith, none, long.0.long) in
-      let now : can_be_judged held ≡ true = or_right (has_feed held) (ltb 32768 (length held))
+      let now : can_be_evaluated held ≡ true = or_right (has_feed held) (ltb 32768 (length held))
       (lt-ltb 32768 (length held) long.0.long) in
       record {
         others = [];
-        are = ap (filter can_be_judged) (open_line held some long.0.free)
+        are = ap (filter can_be_evaluated) (open_line held some long.0.free)
             ∙ rw now (ap (λ (t : List ℕ). t ∷ []) (sym all));
       }
 
@@ -237,7 +239,7 @@ first_lack : (env : RunEnvironment) (x y input : List ℕ) (n : ℕ) → length 
     → LacksText (Some x) (Some y) (report_through env n input) → FirstLack env x y input
 first_lack env x y input zero le h =
     let none : length (report_through env 0 input) ≡ 0 =
-    ap (λ (s : Story). length s.text) (no_lines env nothing_reached) in
+    ap (λ (s : ScriptRun). length s.text) (no_lines env nothing_reached) in
     absurd (omega (arith, le, h, none))
 first_lack env x y input (suc n) le h =
     elim (leb_tells (length x + length (report_through env n input)) (length y)) [
@@ -251,16 +253,16 @@ first_lack env x y input (suc n) le h =
 
 falls_short : {Short : Type 0} (env : RunEnvironment) (a d : Option (List ℕ)) (input rest : List ℕ)
     → ((n : ℕ) → LacksText a d (report_through env n input) → IsTakenNear n input rest)
-    → GainsPrefix a d (story_of env input).text Short → Short
+    → GainsPrefix a d (run_of env input).text Short → Short
     → IfSome a (λ _. FallsShortNear env a d input rest)
 falls_short env None d input rest near f short = tt
 falls_short env (Some x) None input rest near f short = absurd f.gained
 falls_short env (Some x) (Some y) input rest near f short =
     let all = length (lines input) in
-    let whole : report_through env all input ≡ (story_of env input).text =
+    let whole : report_through env all input ≡ (run_of env input).text =
     ap (report_of env) (take_all all (lines input) (omega arith)) in
     let lacks = subst (LacksText (Some x) (Some y)) (sym whole)
-    (short_lacks (Some x) (Some y) (story_of env input).text f short) in
+    (short_lacks (Some x) (Some y) (run_of env input).text f short) in
     let first = first_lack env x y input all (omega (arith, ap length f.gained, length-append x f.written)) lacks in
     record {
       before = first.before;
@@ -297,15 +299,15 @@ module _ (env : RunEnvironment) (held : List ℕ) (r : Reached) (a b d : Option 
         length-append held rest,
       )
 
-  few_reported : (n : ℕ) → n ≤ r.lines → length (report_through env n input) ≤ length so_far.text
-  few_reported n le =
+  few_printed : (n : ℕ) → n ≤ r.lines → length (report_through env n input) ≤ length so_far.text
+  few_printed n le =
       let count : n ≤ length so_far.done = omega (arith, le, so_far.count) in
       let first : take n (lines input) ≡ take n so_far.done = ap (take n) lines_are
       ∙ take-append-le n so_far.done (lines (held ++ rest)) count in
       let fewer = fewer_lines env nothing_reached (take n so_far.done) (drop n so_far.done) in
       let all : report_of env (take n so_far.done ++ drop n so_far.done) ≡ so_far.text ++ [] =
       ap (report_of env) (take-append-drop n so_far.done ∙ sym (append-nil so_far.done))
-      ∙ ap (λ (s : Story). s.text) (so_far.goes [] ∙ ap (after_text so_far.text) (no_lines env r)) in
+      ∙ ap (λ (s : ScriptRun). s.text) (so_far.goes [] ∙ ap (after_text so_far.text) (no_lines env r)) in
       omega (
         arith,
         fewer,
@@ -319,22 +321,22 @@ module _ (env : RunEnvironment) (held : List ℕ) (r : Reached) (a b d : Option 
   near_fault more f few n lacks = elim (leb_tells r.lines n) [
     | inl le ↦ near n le.1 few
     | inr lt ↦ absurd (longer a b d so_far.text (report_through env n input) more so_far.gained f
-        (few_reported n (omega (arith, lt.1))) lacks)
+        (few_printed n (omega (arith, lt.1))) lacks)
   ]
 
-  prefix_so_far_is : {Short : Type 0} (others : List (List ℕ)) → filter can_be_judged (lines held) ≡ others
-      → GainsPrefix b d (story_from env r others).text Short
+  prefix_so_far_is : {Short : Type 0} (others : List (List ℕ)) → filter can_be_evaluated (lines held) ≡ others
+      → GainsPrefix b d (run_from env r others).text Short
       → GainsPrefix a d (report_of env (lines_so_far (taken input rest))) Short
   prefix_so_far_is {Short} others e f =
-      let text : report_of env (lines_so_far (taken input rest)) ≡ so_far.text ++ (story_from env r others).text =
+      let text : report_of env (lines_so_far (taken input rest)) ≡ so_far.text ++ (run_from env r others).text =
       ap (report_of env) (so_far_is env held r a b input rest so_far
-      ∙ ap (λ (t : List (List ℕ)). so_far.done ++ t) e) ∙ ap (λ (s : Story). s.text) (so_far.goes others) in
+      ∙ ap (λ (t : List (List ℕ)). so_far.done ++ t) e) ∙ ap (λ (s : ScriptRun). s.text) (so_far.goes others) in
       let P : List ℕ → Type 0 = λ t. GainsPrefix a d t Short in
-      subst P (sym text) (prefix_after a b d so_far.text (story_from env r others).text so_far.gained f)
+      subst P (sym text) (prefix_after a b d so_far.text (run_from env r others).text so_far.gained f)
 
 -- what was written is a prefix of what is reported of the lines that were taken
 prefix_taken : {Short : Type 0} (env : RunEnvironment) (a d : Option (List ℕ)) (input rest : List ℕ)
-    → GainsPrefix a d (story_of env input).text Short
+    → GainsPrefix a d (run_of env input).text Short
     → GainsPrefix a d (report_of env (lines_so_far (taken input rest))) Short
     → GainsPrefix a d (report_of env (lines_taken input rest)) Short
 prefix_taken env a d input [] whole part = whole
@@ -345,20 +347,20 @@ pub ran_unread : (end : Option GroupState) (env : RunEnvironment) (held : List �
     (input rest : List ℕ) → Carried env held r a b input rest → LineIsBegun held
     → Ran env a b ReadFault end input rest
 ran_unread end env held r a b input rest so_far begun =
-    let story = story_is env held r a b input rest so_far in
-    let prefix : GainsPrefix a b (story_of env input).text (ReadFault ≡ WriteFault) =
-    prefix_so_far a b so_far.text (story_from env r (lines (held ++ rest))).text (story_of env input).text
-    (ap (λ (s : Story). s.text) story) (λ e. absurd cc) so_far.gained in
+    let script_run = run_is env held r a b input rest so_far in
+    let prefix : GainsPrefix a b (run_of env input).text (ReadFault ≡ WriteFault) =
+    prefix_so_far a b so_far.text (run_from env r (lines (held ++ rest))).text (run_of env input).text
+    (ap (λ (s : ScriptRun). s.text) script_run) (λ e. absurd cc) so_far.gained in
     let lines_are_done : lines_so_far (taken input rest) ≡ so_far.done ++ [] =
     so_far_is env held r a b input rest so_far ∙ ap (λ (t : List (List ℕ)). so_far.done ++ t)
     (begun_judged held begun) in
     let text : report_of env (lines_so_far (taken input rest)) ≡ so_far.text =
-    ap (report_of env) lines_are_done ∙ ap (λ (s : Story). s.text)
+    ap (report_of env) lines_are_done ∙ ap (λ (s : ScriptRun). s.text)
     (so_far.goes [] ∙ ap (after_text so_far.text) (no_lines env r)) ∙ append-nil so_far.text in
     let P : List ℕ → Type 0 = λ t. GainsText a b t in
     let exact : GainsText a b (report_of env (lines_so_far (taken input rest))) = subst P (sym text) so_far.gained in
     record {
-      tells = record { ending = λ reported. absurd reported; text = λ reported. absurd reported; prefix = prefix };
+      tells = record { ending = λ printed. absurd printed; text = λ printed. absurd printed; prefix = prefix };
       read_to_end = λ e. absurd cc;
       lines = record {
         prefix_of_taken = prefix_taken env a b input rest prefix
@@ -382,11 +384,11 @@ module _ (env : RunEnvironment) (held : List ℕ) (r : Reached) (a b d : Option 
   ran_stopped end =
       let line = take count held in
       let after_line = lines (drop count held ++ rest) in
-      let story : story_of env input ≡ after_text so_far.text (story_from env r (line ∷ after_line)) =
-      story_is env held r a b input rest so_far ∙ ap (after_text so_far.text)
-      (first_line_story env r held rest count h) in
-      let Q : Story → Type 0 = λ s. StatusReports s a d status in
-      let tells = subst Q (sym story) (reports_after (story_from env r (line ∷ after_line)) a b d so_far.text status
+      let script_run : run_of env input ≡ after_text so_far.text (run_from env r (line ∷ after_line)) =
+      run_is env held r a b input rest so_far ∙ ap (after_text so_far.text)
+      (first_line_run env r held rest count h) in
+      let Q : ScriptRun → Type 0 = λ s. IsStatusOf s a d status in
+      let tells = subst Q (sym script_run) (reports_after (run_from env r (line ∷ after_line)) a b d so_far.text status
       so_far.gained (stops.tells after_line)) in
       let first = first_judged held count h in
       let prefixes = stops.tells first.others in
@@ -400,7 +402,7 @@ module _ (env : RunEnvironment) (held : List ℕ) (r : Reached) (a b d : Option 
           bounded_after_refusal = λ n at. near env held r a b d input rest so_far n
               (omega (arith, stops.at n at)) few;
           bounded_after_write_fault = falls_short env a d input rest (near_fault env held r a b d input rest so_far
-              (story_from env r (line ∷ after_line)).text (stops.tells after_line).prefix few) tells.prefix;
+              (run_from env r (line ∷ after_line)).text (stops.tells after_line).prefix few) tells.prefix;
         };
         last = λ e. absurd (never Done (λ x. x) e);
       }
@@ -410,12 +412,12 @@ pub ran_finished : (env : RunEnvironment) (held : List ℕ) (r : Reached) (a b d
     (end : Option GroupState) (status : Status) → Carried env held r a b input rest → rest ≡ []
     → length held ≤ 65536 → Finishes env r (lines held) end b d status → Ran env a d status end input rest
 ran_finished env held r a b d input rest end status so_far none few f =
-    let story : story_of env input ≡ after_text so_far.text (story_from env r (lines held)) =
-    story_is env held r a b input rest so_far ∙ ap (λ (t : List ℕ).
-    after_text so_far.text (story_from env r (lines t)))
+    let script_run : run_of env input ≡ after_text so_far.text (run_from env r (lines held)) =
+    run_is env held r a b input rest so_far ∙ ap (λ (t : List ℕ).
+    after_text so_far.text (run_from env r (lines t)))
     (ap (λ (t : List ℕ). held ++ t) none ∙ append-nil held) in
-    let Q : Story → Type 0 = λ s. StatusReports s a d status in
-    let tells = subst Q (sym story) (reports_after (story_from env r (lines held)) a b d so_far.text status
+    let Q : ScriptRun → Type 0 = λ s. IsStatusOf s a d status in
+    let tells = subst Q (sym script_run) (reports_after (run_from env r (lines held)) a b d so_far.text status
     so_far.gained f.tells) in
     record {
       tells = tells;
@@ -426,10 +428,10 @@ ran_finished env held r a b d input rest end status so_far none few f =
         exact_after_read_fault = λ e. absurd (f.read e);
         bounded_after_refusal = λ n at. near env held r a b d input rest so_far n (omega (arith, f.at n at)) few;
         bounded_after_write_fault = falls_short env a d input rest (near_fault env held r a b d input rest so_far
-            (story_from env r (lines held)).text f.tells.prefix few) tells.prefix;
+            (run_from env r (lines held)).text f.tells.prefix few) tells.prefix;
       };
       last = λ e. let ends = f.last e in
-          subst (LeavesWorld end) (sym story)
+          subst (LeavesWorld end) (sym script_run)
           (record { world = ends.world; keys = ends.keys; mirrors = ends.mirrors });
     }
 
@@ -441,11 +443,11 @@ unfolding lines
 finishes_none env r a last end none leaves =
     let F : List ℕ → Type 0 = λ t. Finishes env r (lines t) end a a Done in
     let ends = no_lines env r in
-    let T : Story → Type 0 = λ s. StatusReports s a a Done in
+    let T : ScriptRun → Type 0 = λ s. IsStatusOf s a a Done in
     subst F (sym none) (record {
       tells = subst T (sym ends) (record {
-        ending = λ reported. refl;
-        text = λ reported. nothing_gained a;
+        ending = λ printed. refl;
+        text = λ printed. nothing_gained a;
         prefix = prefix_whole a a [] (λ e. cc) (nothing_gained a);
       });
       at = λ number at. absurd at;
@@ -461,21 +463,21 @@ module _ (env : RunEnvironment) (r : Reached) (a b : Option (List ℕ)) (last : 
   pub finishes_line : (next : Reached) → Took env r last next a b → LeavesWorld end (ended next.state [] ending.Done)
       → Finishes env r (lines last) end a b Done
   finishes_line next took leaves =
-      let story : story_from env r (lines last) ≡ after_text took.report (ended next.state [] ending.Done) =
-      ap (story_from env r) one_line ∙ goes_on env r last next a b took []
+      let script_run : run_from env r (lines last) ≡ after_text took.report (ended next.state [] ending.Done) =
+      ap (run_from env r) one_line ∙ goes_on env r last next a b took []
       ∙ ap (after_text took.report) (no_lines env next) in
       let all : took.report ≡ took.report ++ [] = sym (append-nil took.report) in
       let gained = subst (GainsText a b) all took.gained in
-      let T : Story → Type 0 = λ s. StatusReports s a b Done in
+      let T : ScriptRun → Type 0 = λ s. IsStatusOf s a b Done in
       record {
-        tells = subst T (sym story) (record {
-          ending = λ reported. refl;
-          text = λ reported. gained;
+        tells = subst T (sym script_run) (record {
+          ending = λ printed. refl;
+          text = λ printed. gained;
           prefix = prefix_whole a b (took.report ++ []) (λ e. cc) gained;
         });
         at = λ number at. absurd at;
         read = λ e. cc;
-        last = λ e. subst (LeavesWorld end) (sym story)
+        last = λ e. subst (LeavesWorld end) (sym script_run)
             (record { world = leaves.world; keys = leaves.keys; mirrors = leaves.mirrors });
       }
 
@@ -484,7 +486,7 @@ module _ (env : RunEnvironment) (r : Reached) (a b : Option (List ℕ)) (last : 
   finishes_stopped status stops =
       let never : (other : Status) → (IsStopping other → ⊥) → status ≡ other
       → ⊥ = λ other not_so e. not_so (subst IsStopping e stops.stops) in
-      let T : List (List ℕ) → Type 0 = λ ls. StatusReports (story_from env r ls) a b status in
+      let T : List (List ℕ) → Type 0 = λ ls. IsStatusOf (run_from env r ls) a b status in
       record {
         tells = subst T (sym one_line) (stops.tells []);
         at = stops.at;

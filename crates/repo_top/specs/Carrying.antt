@@ -11,12 +11,12 @@ use Rattle.repo_io.specs.Outside.{GainsText, GainsPrefix}
 use Rattle.repo_io.specs.Lines.{lines}
 use Rattle.bench_world.specs.Worlds.{GroupState, world_of}
 use Rattle.script_story.specs.Mirrors.{mirror_as}
-use Rattle.script_story.specs.Judging.{RunEnvironment, says}
-use Rattle.script_story.specs.Story.{Reached, Story, reached_after, after_text, judged_next, nothing_reached}
-use Rattle.script_story.specs.Story.{story_from, story_of}
-use Rattle.repo_io.specs.Statuses.{IsReported}
+use Rattle.script_story.specs.Evaluation.{RunEnvironment, accepted}
+use Rattle.script_story.specs.ScriptRun.{Reached, ScriptRun, reached_after, after_text, evaluated_next, nothing_reached}
+use Rattle.script_story.specs.ScriptRun.{run_from, run_of}
+use Rattle.repo_io.specs.Statuses.{IsEndOfRun}
 use Rattle.script_story.specs.Answers.{status_of}
-use Rattle.repo_top.specs.Taken.{IsStoppedAt, IsTakenNear, FallsShortNear, can_be_judged, lines_so_far, lines_taken}
+use Rattle.repo_top.specs.Taken.{IsStoppedAt, IsTakenNear, FallsShortNear, can_be_evaluated, lines_so_far, lines_taken}
 use Rattle.repo_top.specs.Taken.{report_of, taken}
 
 -- ---- one line
@@ -25,14 +25,14 @@ use Rattle.repo_top.specs.Taken.{report_of, taken}
 pub record Took (env : RunEnvironment) (r : Reached) (line : List ℕ) (next : Reached) (old new : Option
     (List ℕ)) : Type 0 where
   pub report : List ℕ
-  pub verdict : judged_next env r line ≡ says report next.state
+  pub verdict : evaluated_next env r line ≡ accepted report next.state
   pub then : next ≡ reached_after r line report next.state
   pub gained : GainsText old new report
 
 -- What a status says of a story whose text an output was to gain.
-pub record StatusReports (s : Story) (old new : Option (List ℕ)) (status : Status) : Type 0 where
-  pub ending : IsReported status → status ≡ status_of s.ending
-  pub text : IsReported status → GainsText old new s.text
+pub record IsStatusOf (s : ScriptRun) (old new : Option (List ℕ)) (status : Status) : Type 0 where
+  pub ending : IsEndOfRun status → status ≡ status_of s.ending
+  pub text : IsEndOfRun status → GainsText old new s.text
   pub prefix : GainsPrefix old new s.text (status ≡ WriteFault)
 
 -- The statuses with which a run stops at a line.
@@ -48,19 +48,19 @@ IsStopping (Foreign line) = ⊤
 -- A run stopped so at the line of this number.
 pub record Halts (line : ℕ) (why : LineError) (old new : Option (List ℕ)) (status : Status) : Type 0 where
   pub stops : IsStopping status
-  pub same : IsReported status → status ≡ line_error_status line why
-  pub text : IsReported status → GainsText old new (line_error_text line why)
+  pub same : IsEndOfRun status → status ≡ line_error_status line why
+  pub text : IsEndOfRun status → GainsText old new (line_error_text line why)
   pub prefix : GainsPrefix old new (line_error_text line why) (status ≡ WriteFault)
 
 -- A run stopped at a line, whatever lines follow it.
 pub record Stops (env : RunEnvironment) (r : Reached) (line : List ℕ) (old new : Option (List ℕ))
     (status : Status) : Type 0 where
   pub stops : IsStopping status
-  pub tells : (others : List (List ℕ)) → StatusReports (story_from env r (line ∷ others)) old new status
+  pub tells : (others : List (List ℕ)) → IsStatusOf (run_from env r (line ∷ others)) old new status
   pub at : (number : ℕ) → IsStoppedAt status number → number ≡ r.lines + 1
 
 -- The world that is left is that of the story, with its mirrors.
-pub record LeavesWorld (end : Option GroupState) (s : Story) : Type 0 where
+pub record LeavesWorld (end : Option GroupState) (s : ScriptRun) : Type 0 where
   pub world : option_map world_of end ≡ s.world
   pub keys : IfSome end (λ world. world.keys ≡ s.keys)
   pub mirrors : IfSome end (λ world. map mirror_as world.mirrors ≡ s.mirrors)
@@ -68,10 +68,10 @@ pub record LeavesWorld (end : Option GroupState) (s : Story) : Type 0 where
 -- A run ended with the last line, or before it where there is none, and left this world where it is done.
 pub record Finishes (env : RunEnvironment) (r : Reached) (lines_left : List (List ℕ)) (end : Option GroupState)
     (old new : Option (List ℕ)) (status : Status) : Type 0 where
-  pub tells : StatusReports (story_from env r lines_left) old new status
+  pub tells : IsStatusOf (run_from env r lines_left) old new status
   pub at : (number : ℕ) → IsStoppedAt status number → number ≡ r.lines + 1
   pub read : (status ≡ ReadFault) → ⊥
-  pub last : status ≡ Done → LeavesWorld end (story_from env r lines_left)
+  pub last : status ≡ Done → LeavesWorld end (run_from env r lines_left)
 
 -- ---- a run
 
@@ -91,9 +91,9 @@ pub record Carried (env : RunEnvironment) (held : List ℕ) (r : Reached) (old n
   pub cut : (more : List ℕ) → lines (octets ++ more) ≡ done ++ lines more
   pub joined : concat done ≡ octets
   pub count : r.lines ≡ length done
-  pub judged : filter can_be_judged done ≡ done
+  pub evaluated : filter can_be_evaluated done ≡ done
   pub goes : (others : List (List ℕ))
-      → story_from env nothing_reached (done ++ others) ≡ after_text text (story_from env r others)
+      → run_from env nothing_reached (done ++ others) ≡ after_text text (run_from env r others)
   pub gained : GainsText old new text
 
 -- A script is carried out line by line.
@@ -114,7 +114,7 @@ pub record WritesLines (env : RunEnvironment) (old new : Option (List ℕ)) (sta
 -- What a run over a known input comes to, which left this world where it is done.
 pub record Ran (env : RunEnvironment) (old new : Option (List ℕ)) (status : Status) (end : Option GroupState)
     (input rest : List ℕ) : Type 0 where
-  pub tells : StatusReports (story_of env input) old new status
+  pub tells : IsStatusOf (run_of env input) old new status
   pub read_to_end : status ≡ Done → rest ≡ []
   pub lines : WritesLines env old new status input rest
-  pub last : status ≡ Done → LeavesWorld end (story_of env input)
+  pub last : status ≡ Done → LeavesWorld end (run_of env input)

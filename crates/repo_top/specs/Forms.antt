@@ -2,12 +2,12 @@
 use Rattle.std.specs.Prelude.{ℕ, ⊤, List, [], ◌∷◌, Option, Some, None, codes, if◌then◌else◌}
 use Rattle.std.specs.Option.{option_map}
 use Rattle.std.specs.Str.{bytes_eq}
-use Rattle.script_story.specs.Judging.{RunEnvironment}
-use Rattle.script_story.specs.Story.{Story, story_of}
-use Rattle.repo_top.specs.Inspection.{inspect_story}
+use Rattle.script_story.specs.Evaluation.{RunEnvironment}
+use Rattle.script_story.specs.ScriptRun.{ScriptRun, run_of}
+use Rattle.repo_top.specs.Inspection.{inspect_run}
 use Rattle.repo_top.specs.Words.{number_within}
 use Rattle.repo_top.specs.declared.generator.GeneratorInputs.{GeneratorInputs}
-use Rattle.repo_top.specs.Generator.{gen_story}
+use Rattle.repo_top.specs.Generator.{gen_run}
 use Rattle.repo_top.specs.declared.asked.Asked.{Asked}
 use Rattle.repo_top.specs.declared.asked.Asked.TheVariants.{Run, Inspect, Gen}
 
@@ -71,8 +71,8 @@ InputIsRead (Some Inspect) = ⊤
 InputIsRead (Some (Gen measures)) = ⊥
 
 -- What comes of the words over an input, where it is known or not needed.
-abbrev pub asked_story : RunEnvironment → Option Asked → Option (List ℕ) → Option Story
-asked_story env None input = None
-asked_story env (Some Run) input = option_map (story_of env) input
-asked_story env (Some Inspect) input = option_map inspect_story input
-asked_story env (Some (Gen measures)) input = Some (gen_story measures)
+abbrev pub asked_run : RunEnvironment → Option Asked → Option (List ℕ) → Option ScriptRun
+asked_run env None input = None
+asked_run env (Some Run) input = option_map (run_of env) input
+asked_run env (Some Inspect) input = option_map inspect_run input
+asked_run env (Some (Gen measures)) input = Some (gen_run measures)

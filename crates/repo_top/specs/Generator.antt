@@ -4,7 +4,7 @@ use Rattle.std.specs.Prelude.{if◌then◌else◌}
 use Rattle.std.specs.Fmt.{digits}
 use Rattle.repo_top.specs.declared.generator.GeneratorInputs.{GeneratorInputs}
 use Rattle.script_story.specs.declared.ending.Ending.TheVariants.{Done}
-use Rattle.script_story.specs.Story.{Story, plain_story}
+use Rattle.script_story.specs.ScriptRun.{ScriptRun, plain_run}
 
 -- A state follows another by a linear congruential generator modulo 2 ^ 64.
 abbrev pub next_state : ℕ → ℕ
@@ -71,5 +71,5 @@ gen_text m =
     ++ texts (object_text m.members m.seed) m.objects ++ codes "settle 4\n" ++ codes "summary\n"
 
 -- The story of `gen`: it writes the script, and is done.
-abbrev pub gen_story : GeneratorInputs → Story
-gen_story m = plain_story (gen_text m) Done
+abbrev pub gen_run : GeneratorInputs → ScriptRun
+gen_run m = plain_run (gen_text m) Done

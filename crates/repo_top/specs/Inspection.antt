@@ -10,7 +10,7 @@ use Rattle.script_story.specs.declared.ending.Ending.{Ending}
 use Rattle.script_story.specs.declared.ending.Ending.TheVariants.{Done, Refused}
 use Rattle.script_report.specs.declared.refusal.Refusal.TheVariants.{Syntax, Limit, BadPacket}
 use Rattle.script_report.specs.Refusals.{refusal_number}
-use Rattle.script_story.specs.Story.{Story, plain_story, refused}
+use Rattle.script_story.specs.ScriptRun.{ScriptRun, plain_run, refused}
 
 -- A space, a tab, a line feed or a carriage return.
 abbrev pub is_space : ℕ → Bool
@@ -26,22 +26,22 @@ sound_ending None = Done
 sound_ending (Some fault) = Refused 1 (refusal_number BadPacket)
 
 -- The story of octets that give these lines.
-abbrev pub lines_story : Lines → Story
-lines_story lines = plain_story (printed_with_fault lines.text lines.fault) (sound_ending lines.fault)
+abbrev pub lines_run : Lines → ScriptRun
+lines_run lines = plain_run (printed_with_fault lines.text lines.fault) (sound_ending lines.fault)
 
 -- The octets are inspected, where a packet may have so many.
-abbrev pub octets_story : List ℕ → Story
-octets_story octets =
-    if nat_lt 8800 (length octets) then refused Limit else lines_story (inspected octets)
+abbrev pub octets_run : List ℕ → ScriptRun
+octets_run octets =
+    if nat_lt 8800 (length octets) then refused Limit else lines_run (inspected octets)
 
 -- The story of an input whose digits gave these octets, or couldn't be decoded.
-abbrev pub decoded_story : Result (List ℕ) FromHexError → Story
-decoded_story (Ok octets) = octets_story octets
-decoded_story (Err e) = refused Syntax
+abbrev pub decoded_run : Result (List ℕ) FromHexError → ScriptRun
+decoded_run (Ok octets) = octets_run octets
+decoded_run (Err e) = refused Syntax
 
 -- The story of an input that is inspected: pairs of hexadecimal digits, with spaces anywhere. An input of more than
 -- 16,777,216 octets is refused before anything else is asked of it.
-unfoldable pub inspect_story : List ℕ → Story
-inspect_story input =
+unfoldable pub inspect_run : List ℕ → ScriptRun
+inspect_run input =
     if nat_lt 16777216 (length input) then refused Limit
-    else decoded_story (decode_of (without_spaces input))
+    else decoded_run (decode_of (without_spaces input))

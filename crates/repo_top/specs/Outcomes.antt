@@ -4,11 +4,11 @@ use Rattle.std.specs.Option.{option_map}
 use Rattle.repo_io.specs.declared.status.Status.{Status}
 use Rattle.repo_io.specs.declared.status.Status.TheVariants.{Done, Usage, ReadFault, WriteFault, NoMemory, Foreign}
 use Rattle.repo_io.specs.Outside.{GainsText, GainsPrefix}
-use Rattle.repo_io.specs.Statuses.{IsReported}
+use Rattle.repo_io.specs.Statuses.{IsEndOfRun}
 use Rattle.bench_world.specs.Worlds.{GroupState, world_of}
 use Rattle.script_story.specs.Answers.{status_of}
 use Rattle.script_story.specs.Mirrors.{mirror_as}
-use Rattle.script_story.specs.Story.{Story}
+use Rattle.script_story.specs.ScriptRun.{ScriptRun}
 use Rattle.repo_top.specs.declared.asked.Asked.{Asked}
 use Rattle.repo_top.specs.Forms.{InputIsRead, IsGenerated, IsInspected, IsRun}
 
@@ -20,13 +20,13 @@ pub record UsageIsOfWords (asked : Option Asked) (status : Status) (SameSource S
   pub untouched : status ≡ Usage → SameSource × SameSink
 
 -- What was written is of the story that the words ask for, where source and sink know their octets.
-pub record ReportsStory (story : Option Story) (old new : Option (List ℕ)) (status : Status) : Type 0 where
+pub record ReportsRun (script_run : Option ScriptRun) (old new : Option (List ℕ)) (status : Status) : Type 0 where
   -- On `Done`, `Refused` and `Foreign` the status is the story's end,
-  pub end : IsReported status → IfSome story (λ s. status ≡ status_of s.ending)
+  pub end : IsEndOfRun status → IfSome script_run (λ s. status ≡ status_of s.ending)
   -- and what was written is its text.
-  pub text : IsReported status → IfSome story (λ s. GainsText old new s.text)
+  pub text : IsEndOfRun status → IfSome script_run (λ s. GainsText old new s.text)
   -- Whatever comes, what was written is a prefix of that text, and after `WriteFault` not the whole of it.
-  pub prefix : IfSome story (λ s. GainsPrefix old new s.text (status ≡ WriteFault))
+  pub prefix : IfSome script_run (λ s. GainsPrefix old new s.text (status ≡ WriteFault))
 
 -- What the form reads, and what it has written when the source fails.
 pub record ReadsInput (asked : Option Asked) (left rest : Option (List ℕ)) (status : Status)
@@ -39,16 +39,16 @@ pub record ReadsInput (asked : Option Asked) (left rest : Option (List ℕ)) (st
   pub unwritten : IsInspected asked → status ≡ ReadFault → SameSink
 
 -- On `Done` the world that is left is the story's, with its names and keys and its mirrors.
-pub record LeavesLast (asked : Option Asked) (story : Option Story) (status : Status) (end : Option GroupState)
+pub record LeavesLast (asked : Option Asked) (script_run : Option ScriptRun) (status : Status) (end : Option GroupState)
     : Type 0 where
-  pub world : status ≡ Done → IfSome story (λ s. option_map world_of end ≡ s.world)
-  pub keys : status ≡ Done → IfSome story (λ s. IfSome end (λ world. world.keys ≡ s.keys))
-  pub mirrors : status ≡ Done → IfSome story (λ s. IfSome end (λ world. map mirror_as world.mirrors ≡ s.mirrors))
+  pub world : status ≡ Done → IfSome script_run (λ s. option_map world_of end ≡ s.world)
+  pub keys : status ≡ Done → IfSome script_run (λ s. IfSome end (λ world. world.keys ≡ s.keys))
+  pub mirrors : status ≡ Done → IfSome script_run (λ s. IfSome end (λ world. map mirror_as world.mirrors ≡ s.mirrors))
   -- In every other case there is none.
   pub no_world : (status ≢ Done) ⊎ (IsRun asked → ⊥) → end ≡ None
 
 -- The other answers have their causes. Memory may run out at any time.
-pub record HasCause (asked : Option Asked) (story : Option Story) (status : Status)
+pub record HasCause (asked : Option Asked) (script_run : Option ScriptRun) (status : Status)
     (SourceFailed SinkFailed : Type 0) : Type 0 where
   -- `ReadFault` comes only where the source failed, and `WriteFault` only where the sink did.
   pub read_fault : status ≡ ReadFault → SourceFailed
@@ -59,4 +59,4 @@ pub record HasCause (asked : Option Asked) (story : Option Story) (status : Stat
   pub generated : IsGenerated asked → (status ≡ Done) ⊎ ((status ≡ NoMemory) ⊎ (status ≡ WriteFault))
   -- Where nothing fails, the story's end comes, unless memory runs out.
   pub complete : (SourceFailed → ⊥) → (SinkFailed → ⊥)
-      → IfSome story (λ s. (status ≡ status_of s.ending) ⊎ (status ≡ NoMemory))
+      → IfSome script_run (λ s. (status ≡ status_of s.ending) ⊎ (status ≡ NoMemory))

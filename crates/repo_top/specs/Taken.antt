@@ -6,9 +6,9 @@ use Rattle.script_lang.specs.Limits.{line_octets}
 use Rattle.repo_io.specs.declared.status.Status.{Status}
 use Rattle.repo_io.specs.declared.status.Status.TheVariants.{Done, Usage, Refused, ReadFault, WriteFault, NoMemory}
 use Rattle.repo_io.specs.declared.status.Status.TheVariants.{Foreign}
-use Rattle.script_story.specs.Judging.{RunEnvironment}
+use Rattle.script_story.specs.Evaluation.{RunEnvironment}
 use Rattle.repo_io.specs.Lines.{has_feed, lines}
-use Rattle.script_story.specs.Story.{nothing_reached, story_from}
+use Rattle.script_story.specs.ScriptRun.{nothing_reached, run_from}
 
 -- ---- lines
 
@@ -17,12 +17,12 @@ abbrev pub taken : List ℕ → List ℕ → List ℕ
 taken input rest = take (length input - length rest) input
 
 -- A line that can be judged: its line feed is there, or it is too long, whatever follows.
-abbrev pub can_be_judged : List ℕ → Bool
-can_be_judged line = has_feed line || nat_lt line_octets (length line)
+abbrev pub can_be_evaluated : List ℕ → Bool
+can_be_evaluated line = has_feed line || nat_lt line_octets (length line)
 
 -- The lines of the octets so far.
 abbrev pub lines_so_far : List ℕ → List (List ℕ)
-lines_so_far octets = filter can_be_judged (lines octets)
+lines_so_far octets = filter can_be_evaluated (lines octets)
 
 -- The same of an input of which these octets are left: where none are, the last line needs no line feed.
 abbrev pub lines_taken : List ℕ → List ℕ → List (List ℕ)
@@ -33,7 +33,7 @@ lines_taken input (octet ∷ rest) = lines_so_far (taken input (octet ∷ rest))
 
 -- What is reported of the first lines of a script.
 abbrev pub report_of : RunEnvironment → List (List ℕ) → List ℕ
-report_of env prefix = (story_from env nothing_reached prefix).text
+report_of env prefix = (run_from env nothing_reached prefix).text
 
 -- What is reported of an input up to and with the line of this number.
 abbrev pub report_through : RunEnvironment → ℕ → List ℕ → List ℕ

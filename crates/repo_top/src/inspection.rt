@@ -1,6 +1,6 @@
 ghost use Rattle.std.specs.Prelude.{◌≡◌, IfOk};
-ghost use Rattle.repo_top.specs.Inspection.{inspect_story, is_space, octets_story, without_spaces};
-ghost use Rattle.script_story.specs.Story.{refused};
+ghost use Rattle.repo_top.specs.Inspection.{inspect_run, is_space, octets_run, without_spaces};
+ghost use Rattle.script_story.specs.ScriptRun.{refused};
 
 use hex::FromHexError;
 use script_report::{Refusal, put_refused};
@@ -21,10 +21,10 @@ pub(crate) struct Inspected {
 }
 
 // Inspects the octets whose digits the input gives.
-#[tactic(auto, unfolding(crate::specs::Inspection::inspect_story))]
+#[tactic(auto, unfolding(crate::specs::Inspection::inspect_run))]
 pub(crate) fn tell_inspection(alloc: Global, input: Vec<u8>) -> Result<Inspected, AllocError>
-    ensures text { IfOk result (λ reported. reported.text.items ≡ (inspect_story input.items).text) }
-    ensures ending { IfOk result (λ reported. reported.ending ≡ (inspect_story input.items).ending) }
+    ensures text { IfOk result (λ printed. printed.text.items ≡ (inspect_run input.items).text) }
+    ensures ending { IfOk result (λ printed. printed.ending ≡ (inspect_run input.items).ending) }
 {
     if input.len() > MOST_OCTETS {
         return refuse(alloc, Refusal::Limit);
@@ -39,8 +39,8 @@ pub(crate) fn tell_inspection(alloc: Global, input: Vec<u8>) -> Result<Inspected
 
 // Inspects the octets, where a packet may have so many.
 fn tell_octets(alloc: Global, octets: &[u8]) -> Result<Inspected, AllocError>
-    ensures text { IfOk result (λ reported. reported.text.items ≡ (octets_story octets.now).text) }
-    ensures ending { IfOk result (λ reported. reported.ending ≡ (octets_story octets.now).ending) }
+    ensures text { IfOk result (λ printed. printed.text.items ≡ (octets_run octets.now).text) }
+    ensures ending { IfOk result (λ printed. printed.ending ≡ (octets_run octets.now).ending) }
 {
     if octets.len() > MOST_OF_PACKET {
         return refuse(alloc, Refusal::Limit);
@@ -61,8 +61,8 @@ fn tell_octets(alloc: Global, octets: &[u8]) -> Result<Inspected, AllocError>
 
 // The input as its first line is refused.
 fn refuse(alloc: Global, refusal: Refusal) -> Result<Inspected, AllocError>
-    ensures text { IfOk result (λ reported. reported.text.items ≡ (refused refusal).text) }
-    ensures ending { IfOk result (λ reported. reported.ending ≡ (refused refusal).ending) }
+    ensures text { IfOk result (λ printed. printed.text.items ≡ (refused refusal).text) }
+    ensures ending { IfOk result (λ printed. printed.ending ≡ (refused refusal).ending) }
 {
     let mut text = Vec::new(alloc);
     let number = refusal.number();

@@ -1,7 +1,7 @@
 ghost use Rattle.std.specs.Prelude.{◌≡◌, ◌≢◌, ◌≤◌, [], None, Err, IfErr, IfOk};
 ghost use Rattle.repo_io.specs.Outside.{HasRisen};
 ghost use Rattle.repo_io.specs.Lines.{lines};
-ghost use Rattle.script_story.specs.Judging.{env_by};
+ghost use Rattle.script_story.specs.Evaluation.{env_by};
 ghost use Rattle.script_lines.specs.Reading.{LineIsBegun};
 ghost use Rattle.script_lines.specs.Scripts.{IsScript, reached};
 ghost use Rattle.repo_top.specs.Carrying.{Finishes, Halts, Known, Ran, Stops, Took};

@@ -1,14 +1,14 @@
 ghost use Rattle.std.specs.Prelude.{◌≡◌, ◌≢◌, ◌⊎◌, ◌<◌, ℕ, [], None, Some, IfSome, map, string_bytes};
 ghost use Rattle.std.specs.Option.{option_map};
 ghost use Rattle.repo_io.specs.Outside.{GainsText, GainsPrefix, HasRisen};
-ghost use Rattle.repo_io.specs.Statuses.{IsReported};
+ghost use Rattle.repo_io.specs.Statuses.{IsEndOfRun};
 ghost use Rattle.script_story.specs.Answers.{status_of};
-ghost use Rattle.script_story.specs.Judging.{env_by};
+ghost use Rattle.script_story.specs.Evaluation.{env_by};
 ghost use Rattle.repo_top.specs.Carrying.{Known, WritesLines};
-ghost use Rattle.repo_top.specs.Forms.{IsRun, asked_of, asked_story};
+ghost use Rattle.repo_top.specs.Forms.{IsRun, asked_of, asked_run};
 ghost use Rattle.repo_top.specs.Generator.{gen_text};
-ghost use Rattle.repo_top.specs.Inspection.{inspect_story};
-ghost use Rattle.repo_top.specs.Outcomes.{HasCause, LeavesLast, ReadsInput, ReportsStory, UsageIsOfWords};
+ghost use Rattle.repo_top.specs.Inspection.{inspect_run};
+ghost use Rattle.repo_top.specs.Outcomes.{HasCause, LeavesLast, ReadsInput, ReportsRun, UsageIsOfWords};
 
 use crate::asked::{Asked, asked_of};
 use crate::generator::{GenerateError, GeneratorInputs, write_script};
@@ -44,7 +44,7 @@ pub fn run<R: Threads + Sync, S: Source, K: Sink, N: Net + Sync, D: Draws>(
 
     // On `Done`, `Refused` and `Foreign` the status is the end of the story that the words ask for, and what was
     // written is its text. Whatever comes, it is a prefix of that text.
-    ensures story { ReportsStory (asked_story (env_by (D.draw draws.now) (N.passes net.now))
+    ensures script_run { ReportsRun (asked_run (env_by (D.draw draws.now) (N.passes net.now))
         (asked_of (map string_bytes words.now)) (S.left source.old)) (K.out sink.old) (K.out sink.new) result }
 
     // A form that reads and is done has read its input to the end. `gen` reads nothing.
@@ -53,12 +53,12 @@ pub fn run<R: Threads + Sync, S: Source, K: Sink, N: Net + Sync, D: Draws>(
 
     // On `Done` the world that is left is the story's, with its mirrors, and there is none in any other case.
     ensures world { LeavesLast (asked_of (map string_bytes words.now))
-        (asked_story (env_by (D.draw draws.now) (N.passes net.now)) (asked_of (map string_bytes words.now))
+        (asked_run (env_by (D.draw draws.now) (N.passes net.now)) (asked_of (map string_bytes words.now))
         (S.left source.old)) result end.new }
 
     // The other answers have their causes. Memory may run out at any time.
     ensures causes { HasCause (asked_of (map string_bytes words.now))
-        (asked_story (env_by (D.draw draws.now) (N.passes net.now)) (asked_of (map string_bytes words.now))
+        (asked_run (env_by (D.draw draws.now) (N.passes net.now)) (asked_of (map string_bytes words.now))
         (S.left source.old)) result (HasRisen (S.faults source.old) (S.faults source.new))
         (HasRisen (K.faults sink.old) (K.faults sink.new)) }
 
@@ -94,10 +94,10 @@ fn generate<K: Sink>(measures: GeneratorInputs, alloc: Global, sink: &mut K) -> 
 
 // Reads the digits, and writes the lines of the elements that they are.
 fn inspect<S: Source, K: Sink>(alloc: Global, source: &mut S, sink: &mut K) -> Status
-    ensures end { IsReported result
-        → IfSome (option_map inspect_story (S.left source.old)) (λ story. result ≡ status_of story.ending) }
-    ensures text { IsReported result → IfSome (option_map inspect_story (S.left source.old))
-        (λ story. GainsText (K.out sink.old) (K.out sink.new) story.text) }
+    ensures end { IsEndOfRun result
+        → IfSome (option_map inspect_run (S.left source.old)) (λ script_run. result ≡ status_of script_run.ending) }
+    ensures text { IsEndOfRun result → IfSome (option_map inspect_run (S.left source.old))
+        (λ script_run. GainsText (K.out sink.old) (K.out sink.new) script_run.text) }
     ensures read_to_end { result ≡ Status.Done
         → IfSome (S.left source.old) (λ input. S.left source.new ≡ Some []) }
     ensures read_fault { result ≡ Status.ReadFault
@@ -105,12 +105,12 @@ fn inspect<S: Source, K: Sink>(alloc: Global, source: &mut S, sink: &mut K) -> S
     ensures write_fault { result ≡ Status.WriteFault
         → HasRisen (K.faults sink.old) (K.faults sink.new) }
     ensures never { ((line : ℕ) → result ≢ Status.Foreign line) × (result ≢ Status.Usage) }
-    ensures prefix { IfSome (option_map inspect_story (S.left source.old))
-        (λ story. GainsPrefix (K.out sink.old) (K.out sink.new) story.text (result ≡ Status.WriteFault)) }
+    ensures prefix { IfSome (option_map inspect_run (S.left source.old))
+        (λ script_run. GainsPrefix (K.out sink.old) (K.out sink.new) script_run.text (result ≡ Status.WriteFault)) }
     ensures complete { ¬ HasRisen (S.faults source.old) (S.faults source.new)
         → ¬ HasRisen (K.faults sink.old) (K.faults sink.new)
-        → IfSome (option_map inspect_story (S.left source.old))
-        (λ story. (result ≡ status_of story.ending) ⊎ (result ≡ Status.NoMemory)) }
+        → IfSome (option_map inspect_run (S.left source.old))
+        (λ script_run. (result ≡ status_of script_run.ending) ⊎ (result ≡ Status.NoMemory)) }
 {
     // One octet more than are taken, so that a longer input shows.
     let input = match read_up_to(alloc, source, MOST_OCTETS + 1) {
@@ -123,21 +123,21 @@ fn inspect<S: Source, K: Sink>(alloc: Global, source: &mut S, sink: &mut K) -> S
 
 // Inspects the input, and writes the text of that.
 fn write_inspection<K: Sink>(alloc: Global, input: Vec<u8>, sink: &mut K) -> Status
-    ensures ends { (result ≡ status_of (inspect_story input.items).ending)
+    ensures ends { (result ≡ status_of (inspect_run input.items).ending)
         ⊎ ((result ≡ Status.NoMemory) ⊎ (result ≡ Status.WriteFault)) }
-    ensures text { IsReported result
-        → GainsText (K.out sink.old) (K.out sink.new) (inspect_story input.items).text }
+    ensures text { IsEndOfRun result
+        → GainsText (K.out sink.old) (K.out sink.new) (inspect_run input.items).text }
     ensures write_fault { result ≡ Status.WriteFault
         → HasRisen (K.faults sink.old) (K.faults sink.new) }
     ensures never_foreign { (line : ℕ) → result ≢ Status.Foreign line }
-    ensures prefix { GainsPrefix (K.out sink.old) (K.out sink.new) (inspect_story input.items).text
+    ensures prefix { GainsPrefix (K.out sink.old) (K.out sink.new) (inspect_run input.items).text
         (result ≡ Status.WriteFault) }
 {
-    let Ok(reported) = tell_inspection(alloc, input) else {
+    let Ok(printed) = tell_inspection(alloc, input) else {
         return Status::NoMemory;
     };
-    match write_whole(sink, &reported.text) {
-        Ok(()) => Status::from(reported.ending),
+    match write_whole(sink, &printed.text) {
+        Ok(()) => Status::from(printed.ending),
         Err(_) => Status::WriteFault,
     }
 }

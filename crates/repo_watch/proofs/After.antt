@@ -16,22 +16,22 @@ use Rattle.sorted_lists.proofs.Search.{Found}
 use Rattle.sorted_lists.proofs.Search.Found.{at_key, at_gap}
 use Rattle.repo_plan.specs.Parts.{Pair, pair_cmp}
 use Rattle.repo_plan.proofs.Orders.{exact_pairs}
-use Rattle.repo_watch.specs.Watching.{reported_after}
+use Rattle.repo_watch.specs.Watching.{announced_after}
 
 lacks_before : (k : Pair) (xs : List Pair) → IsBefore pair_cmp k xs → contains pair_cmp xs k ≡ false
 lacks_before k [] b = refl
 lacks_before k (x ∷ xs) b = ap (λ (o : Ordering). is_eq o || contains pair_cmp xs k) b.0 ∙ lacks_before k xs b.1
 
-all_after : (k : Pair) (xs : List Pair) → IsBefore pair_cmp k xs → reported_after k xs ≡ xs
+all_after : (k : Pair) (xs : List Pair) → IsBefore pair_cmp k xs → announced_after k xs ≡ xs
 all_after k xs b =
     filter_whole (λ x. is_lt (pair_cmp k x)) xs (λ x i. ap is_lt (each_before exact_pairs.total k xs b x i))
 
 -- the first pair is this one, stands after it, or before it
 module _ (k x : Pair) (xs : List Pair) where
-  pub here_after : k ≡ x → Rises pair_cmp (x ∷ xs) → reported_after k (x ∷ xs) ≡ xs
+  pub here_after : k ≡ x → Rises pair_cmp (x ∷ xs) → announced_after k (x ∷ xs) ≡ xs
   here_after same r =
-      ap (λ (z : Pair). reported_after z (x ∷ xs)) same
-      ∙ ap (λ (c : Bool). cond c (x ∷ reported_after x xs) (reported_after x xs)) (ap is_lt (exact_pairs.itself x))
+      ap (λ (z : Pair). announced_after z (x ∷ xs)) same
+      ∙ ap (λ (c : Bool). cond c (x ∷ announced_after x xs) (announced_after x xs)) (ap is_lt (exact_pairs.itself x))
       ∙ all_after x xs r.0
 
   is_before : pair_cmp x k ≡ Greater → Rises pair_cmp (x ∷ xs) → IsBefore pair_cmp k (x ∷ xs)
@@ -39,19 +39,19 @@ module _ (k x : Pair) (xs : List Pair) where
       let less : pair_cmp k x ≡ Less = greater_back exact_pairs.total x k h in
       (less, before_more exact_pairs.total k x xs less r.0)
 
-  pub past_reported : pair_cmp x k ≡ Greater → Rises pair_cmp (x ∷ xs) → contains pair_cmp (x ∷ xs) k ≡ false
-  past_reported h r = lacks_before k (x ∷ xs) (is_before h r)
+  pub past_announced : pair_cmp x k ≡ Greater → Rises pair_cmp (x ∷ xs) → contains pair_cmp (x ∷ xs) k ≡ false
+  past_announced h r = lacks_before k (x ∷ xs) (is_before h r)
 
-  pub past_after : pair_cmp x k ≡ Greater → Rises pair_cmp (x ∷ xs) → reported_after k (x ∷ xs) ≡ x ∷ xs
+  pub past_after : pair_cmp x k ≡ Greater → Rises pair_cmp (x ∷ xs) → announced_after k (x ∷ xs) ≡ x ∷ xs
   past_after h r = all_after k (x ∷ xs) (is_before h r)
 
-  ahead_after : pair_cmp x k ≡ Less → reported_after k (x ∷ xs) ≡ reported_after k xs
+  ahead_after : pair_cmp x k ≡ Less → announced_after k (x ∷ xs) ≡ announced_after k xs
   ahead_after h =
-      ap (λ (c : Bool). cond c (x ∷ reported_after k xs) (reported_after k xs))
+      ap (λ (c : Bool). cond c (x ∷ announced_after k xs) (announced_after k xs))
       (ap is_lt (less_back exact_pairs.total x k h))
 
 key_after : (k : Pair) (xs : List Pair) (i : ℕ) → Rises pair_cmp xs → i < length xs
-    → HoldsAt (λ x. pair_cmp x k ≡ Equal) xs i → reported_after k xs ≡ drop (suc i) xs
+    → HoldsAt (λ x. pair_cmp x k ≡ Equal) xs i → announced_after k xs ≡ drop (suc i) xs
 key_after k [] i r l h = absurd (omega arith)
 key_after k (x ∷ xs) zero r l h = here_after k x xs (sym (exact_pairs.same x k (h x))) r
 key_after k (x ∷ xs) (suc i) r l h =
@@ -62,7 +62,7 @@ key_after k (x ∷ xs) (suc i) r l h =
     ∙ key_after k xs i r.1 there h
 
 gap_after : (k : Pair) (xs : List Pair) (i : ℕ) → AllWithin (λ x. pair_cmp x k ≡ Less) xs 0 i
-    → AllWithin (λ x. pair_cmp x k ≡ Greater) xs i (length xs) → reported_after k xs ≡ drop i xs
+    → AllWithin (λ x. pair_cmp x k ≡ Greater) xs i (length xs) → announced_after k xs ≡ drop i xs
 gap_after k [] zero below above = refl
 gap_after k [] (suc i) below above = refl
 gap_after k (x ∷ xs) zero below above =
@@ -75,13 +75,13 @@ gap_after k (x ∷ xs) (suc i) below above =
 
 -- what a search finds
 pub found_after : (k : Pair) (xs : List Pair) (i : ℕ) → Rises pair_cmp xs → Found pair_cmp (λ x. x) xs k (Ok i)
-    → reported_after k xs ≡ drop (i + 1) xs
+    → announced_after k xs ≡ drop (i + 1) xs
 found_after k xs i r (at_key j l h) =
     let next : suc j ≡ j + 1 = omega arith in
-    subst (λ (n : ℕ). reported_after k xs ≡ drop n xs) next (key_after k xs j r l h)
+    subst (λ (n : ℕ). announced_after k xs ≡ drop n xs) next (key_after k xs j r l h)
 
 pub missed_after : (k : Pair) (xs : List Pair) (i : ℕ) → Found pair_cmp (λ x. x) xs k (Err i)
-    → reported_after k xs ≡ drop i xs
+    → announced_after k xs ≡ drop i xs
 missed_after k xs i (at_gap j l below above) = gap_after k xs j below above
 
 -- ---- more that is told

@@ -21,14 +21,14 @@ use Rattle.repo_catalog.specs.Entries.{publication_of}
 use Rattle.repo_watch.specs.Patterns.{is_publisher, begins_with, accepts, Accepts}
 use Rattle.repo_watch.specs.Watching.{Watching, watching, is_for, is_news, news, news_of, watch_of}
 use Rattle.repo_watch.specs.Watching.{after_take}
-use Rattle.repo_watch.specs.Laws.{WatchCall, after_watch_calls, tells, was_reported}
+use Rattle.repo_watch.specs.Laws.{WatchCall, after_watch_calls, tells, was_announced}
 use Rattle.repo_watch.specs.Laws.WatchCall.{Add, Take}
-use Rattle.repo_watch.specs.Laws.{IsReportedOnce, AllIsReported, AcceptsByPrefix}
-use Rattle.repo_watch.proofs.ReportedLemmas.{reported_kept, reported_gained}
+use Rattle.repo_watch.specs.Laws.{IsAnnouncedOnce, AllIsAnnounced, AcceptsByPrefix}
+use Rattle.repo_watch.proofs.AnnouncedLemmas.{reported_kept, announced_gained}
 
 -- ---- one watcher
 
-no_news : (w : Watching) (entries : List Entry) (pair : Pair) → contains pair_cmp w.reported pair ≡ true
+no_news : (w : Watching) (entries : List Entry) (pair : Pair) → contains pair_cmp w.announced pair ≡ true
     → contains pair_cmp (news w entries) pair ≡ false
 no_news w [] pair h = refl
 no_news w (e ∷ es) pair h = go (is_news w e) refl (no_news w es pair h) where
@@ -36,18 +36,18 @@ no_news w (e ∷ es) pair h = go (is_news w e) refl (no_news w es pair h) where
   other n =
       false_from_ne_true (eq_by_cmp pair_cmp pair (publication_of e))
       (λ s. let same : pair ≡ publication_of e = eq_same exact_pairs pair (publication_of e) s in
-      let reported : contains pair_cmp w.reported (publication_of e) ≡ true =
-      subst (λ (q : Pair). contains pair_cmp w.reported q ≡ true) same h in
+      let announced : contains pair_cmp w.announced (publication_of e) ≡ true =
+      subst (λ (q : Pair). contains pair_cmp w.announced q ≡ true) same h in
       true≢false
-      (sym (and_parts (is_for w.pattern e) (not (contains pair_cmp w.reported (publication_of e))) n).1
-      ∙ ap not reported))
+      (sym (and_parts (is_for w.pattern e) (not (contains pair_cmp w.announced (publication_of e))) n).1
+      ∙ ap not announced))
 
   go : (b : Bool) → is_news w e ≡ b → contains pair_cmp (news w es) pair ≡ false
       → contains pair_cmp (map publication_of (cond b (e ∷ filter (is_news w) es) (filter (is_news w) es))) pair ≡ false
   go true n rest = ap (λ (b : Bool). b || contains pair_cmp (news w es) pair) (other n) ∙ rest
   go false n rest = rest
 
-is_new : (w : Watching) (entries : List Entry) (pair : Pair) → contains pair_cmp w.reported pair ≡ false
+is_new : (w : Watching) (entries : List Entry) (pair : Pair) → contains pair_cmp w.announced pair ≡ false
     → contains pair_cmp (map publication_of (filter (is_for w.pattern) entries)) pair ≡ true
     → contains pair_cmp (news w entries) pair ≡ true
 is_new w [] pair fresh h = h
@@ -57,10 +57,10 @@ is_new w (e ∷ es) pair fresh h =
       asked : List Pair
       asked = map publication_of (filter (is_for w.pattern) es)
 
-      unheard : eq_by_cmp pair_cmp pair (publication_of e) ≡ true → contains pair_cmp w.reported (publication_of e)
+      unheard : eq_by_cmp pair_cmp pair (publication_of e) ≡ true → contains pair_cmp w.announced (publication_of e)
           ≡ false
       unheard q =
-          subst (λ (z : Pair). contains pair_cmp w.reported z ≡ false) (eq_same exact_pairs pair (publication_of e) q)
+          subst (λ (z : Pair). contains pair_cmp w.announced z ≡ false) (eq_same exact_pairs pair (publication_of e) q)
           fresh
 
       go : (contains pair_cmp asked pair ≡ true → contains pair_cmp (news w es) pair ≡ true)
@@ -78,73 +78,73 @@ is_new w (e ∷ es) pair fresh h =
           (more (ap (λ (b : Bool). b || contains pair_cmp asked pair) (sym s) ∙ g))
       go more true f false n true s g =
           absurd (true≢false
-          (sym (and_from (is_for w.pattern e) (not (contains pair_cmp w.reported (publication_of e))) f
+          (sym (and_from (is_for w.pattern e) (not (contains pair_cmp w.announced (publication_of e))) f
           (ap not (unheard s)))
           ∙ n))
       go more true f false n false s g = more (ap (λ (b : Bool). b || contains pair_cmp asked pair) (sym s) ∙ g)
       go more false f true n s q g =
           absurd (true≢false
-          (sym (and_parts (is_for w.pattern e) (not (contains pair_cmp w.reported (publication_of e))) n).0 ∙ f))
+          (sym (and_parts (is_for w.pattern e) (not (contains pair_cmp w.announced (publication_of e))) n).0 ∙ f))
       go more false f false n s q g = more g
 
-reported_all : (w : Watching) (entries : List Entry) (pair : Pair)
+announced_all : (w : Watching) (entries : List Entry) (pair : Pair)
     → contains pair_cmp (map publication_of (filter (is_for w.pattern) entries)) pair ≡ true
-    → contains pair_cmp (insert_keys pair_cmp (news w entries) w.reported) pair ≡ true
-reported_all w entries pair h = go (contains pair_cmp w.reported pair) refl where
-  go : (b : Bool) → contains pair_cmp w.reported pair ≡ b
-      → contains pair_cmp (insert_keys pair_cmp (news w entries) w.reported) pair ≡ true
-  go true e = reported_kept (news w entries) w.reported pair e
-  go false e = reported_gained (news w entries) w.reported pair (is_new w entries pair e h)
+    → contains pair_cmp (insert_keys pair_cmp (news w entries) w.announced) pair ≡ true
+announced_all w entries pair h = go (contains pair_cmp w.announced pair) refl where
+  go : (b : Bool) → contains pair_cmp w.announced pair ≡ b
+      → contains pair_cmp (insert_keys pair_cmp (news w entries) w.announced) pair ≡ true
+  go true e = reported_kept (news w entries) w.announced pair e
+  go false e = announced_gained (news w entries) w.announced pair (is_new w entries pair e h)
 
 -- ---- the watcher of a number
 
-take_reports : (ws : List Watching) (n : ℕ) (entries : List Entry) (pair : Pair)
-    → contains pair_cmp (tells n entries ws) pair ≡ true → was_reported (watch_of n (after_take n entries ws)) pair
+take_announces : (ws : List Watching) (n : ℕ) (entries : List Entry) (pair : Pair)
+    → contains pair_cmp (tells n entries ws) pair ≡ true → was_announced (watch_of n (after_take n entries ws)) pair
     ≡ true
-take_reports [] n entries pair h = h
-take_reports (w ∷ ws) zero entries pair h = h
-take_reports (w ∷ ws) (suc zero) entries pair h = reported_gained (news w entries) w.reported pair h
-take_reports (w ∷ ws) (suc (suc n)) entries pair h = take_reports ws (suc n) entries pair h
+take_announces [] n entries pair h = h
+take_announces (w ∷ ws) zero entries pair h = h
+take_announces (w ∷ ws) (suc zero) entries pair h = announced_gained (news w entries) w.announced pair h
+take_announces (w ∷ ws) (suc (suc n)) entries pair h = take_announces ws (suc n) entries pair h
 
-take_reports_all : (ws : List Watching) (n : ℕ) (entries : List Entry) (w : Watching) (pair : Pair)
+take_announces_all : (ws : List Watching) (n : ℕ) (entries : List Entry) (w : Watching) (pair : Pair)
     → watch_of n ws ≡ Some w
     → contains pair_cmp (map publication_of (filter (is_for w.pattern) entries)) pair ≡ true
-    → was_reported (watch_of n (after_take n entries ws)) pair ≡ true
-take_reports_all [] n entries w pair e h = absurd (none e) where
+    → was_announced (watch_of n (after_take n entries ws)) pair ≡ true
+take_announces_all [] n entries w pair e h = absurd (none e) where
   none : None ≡ Some w → ⊥
   none p = cc
-take_reports_all (v ∷ ws) zero entries w pair e h = absurd (none e) where
+take_announces_all (v ∷ ws) zero entries w pair e h = absurd (none e) where
   none : None ≡ Some w → ⊥
   none p = cc
-take_reports_all (v ∷ ws) (suc zero) entries w pair e h =
-    reported_all v entries pair (subst (λ (o : Option Watching). was_for o ≡ true) (sym e) h) where
+take_announces_all (v ∷ ws) (suc zero) entries w pair e h =
+    announced_all v entries pair (subst (λ (o : Option Watching). was_for o ≡ true) (sym e) h) where
       was_for : Option Watching → Bool
       was_for None = false
       was_for (Some x) = contains pair_cmp (map publication_of (filter (is_for x.pattern) entries)) pair
-take_reports_all (v ∷ ws) (suc (suc n)) entries w pair e h = take_reports_all ws (suc n) entries w pair e h
+take_announces_all (v ∷ ws) (suc (suc n)) entries w pair e h = take_announces_all ws (suc n) entries w pair e h
 
-take_keeps : (ws : List Watching) (n m : ℕ) (entries : List Entry) (pair : Pair) → was_reported (watch_of n ws) pair
+take_keeps : (ws : List Watching) (n m : ℕ) (entries : List Entry) (pair : Pair) → was_announced (watch_of n ws) pair
     ≡ true
-    → was_reported (watch_of n (after_take m entries ws)) pair ≡ true
+    → was_announced (watch_of n (after_take m entries ws)) pair ≡ true
 take_keeps [] n m entries pair h = h
 take_keeps (w ∷ ws) n zero entries pair h = h
 take_keeps (w ∷ ws) zero (suc zero) entries pair h = h
-take_keeps (w ∷ ws) (suc zero) (suc zero) entries pair h = reported_kept (news w entries) w.reported pair h
+take_keeps (w ∷ ws) (suc zero) (suc zero) entries pair h = reported_kept (news w entries) w.announced pair h
 take_keeps (w ∷ ws) (suc (suc n)) (suc zero) entries pair h = h
 take_keeps (w ∷ ws) zero (suc (suc m)) entries pair h = h
 take_keeps (w ∷ ws) (suc zero) (suc (suc m)) entries pair h = h
 take_keeps (w ∷ ws) (suc (suc n)) (suc (suc m)) entries pair h = take_keeps ws (suc n) (suc m) entries pair h
 
-add_keeps : (ws more : List Watching) (n : ℕ) (pair : Pair) → was_reported (watch_of n ws) pair ≡ true
-    → was_reported (watch_of n (ws ++ more)) pair ≡ true
+add_keeps : (ws more : List Watching) (n : ℕ) (pair : Pair) → was_announced (watch_of n ws) pair ≡ true
+    → was_announced (watch_of n (ws ++ more)) pair ≡ true
 add_keeps [] more n pair h = absurd (true≢false (sym h))
 add_keeps (w ∷ ws) more zero pair h = h
 add_keeps (w ∷ ws) more (suc zero) pair h = h
 add_keeps (w ∷ ws) more (suc (suc n)) pair h = add_keeps ws more (suc n) pair h
 
-calls_keep : (calls : List WatchCall) (ws : List Watching) (n : ℕ) (pair : Pair) → was_reported (watch_of n ws) pair
+calls_keep : (calls : List WatchCall) (ws : List Watching) (n : ℕ) (pair : Pair) → was_announced (watch_of n ws) pair
     ≡ true
-    → was_reported (watch_of n (after_watch_calls calls ws)) pair ≡ true
+    → was_announced (watch_of n (after_watch_calls calls ws)) pair ≡ true
 calls_keep [] ws n pair h = h
 calls_keep (Add pattern entries ∷ calls) ws n pair h =
     calls_keep calls (ws ++ watching pattern entries ∷ []) n pair
@@ -152,24 +152,24 @@ calls_keep (Add pattern entries ∷ calls) ws n pair h =
 calls_keep (Take m entries ∷ calls) ws n pair h =
     calls_keep calls (after_take m entries ws) n pair (take_keeps ws n m entries pair h)
 
-reported_is_no_news : (ws : List Watching) (n : ℕ) (entries : List Entry) (pair : Pair)
-    → was_reported (watch_of n ws) pair ≡ true
+announced_is_no_news : (ws : List Watching) (n : ℕ) (entries : List Entry) (pair : Pair)
+    → was_announced (watch_of n ws) pair ≡ true
     → contains pair_cmp (tells n entries ws) pair ≡ false
-reported_is_no_news ws n entries pair h = go (watch_of n ws) h where
-  go : (o : Option Watching) → was_reported o pair ≡ true → contains pair_cmp (news_of o entries) pair ≡ false
+announced_is_no_news ws n entries pair h = go (watch_of n ws) h where
+  go : (o : Option Watching) → was_announced o pair ≡ true → contains pair_cmp (news_of o entries) pair ≡ false
   go None p = refl
   go (Some w) p = no_news w entries pair p
 
 -- ---- the laws
 
-pub reported_once : IsReportedOnce
-reported_once ws n first between later pair h =
-    reported_is_no_news (after_watch_calls between (after_take n first ws)) n later pair
-    (calls_keep between (after_take n first ws) n pair (take_reports ws n first pair h))
+pub announced_once : IsAnnouncedOnce
+announced_once ws n first between later pair h =
+    announced_is_no_news (after_watch_calls between (after_take n first ws)) n later pair
+    (calls_keep between (after_take n first ws) n pair (take_announces ws n first pair h))
 
-pub all_reported : AllIsReported
-all_reported ws n entries calls w pair e h =
-    calls_keep calls (after_take n entries ws) n pair (take_reports_all ws n entries w pair e h)
+pub all_announced : AllIsAnnounced
+all_announced ws n entries calls w pair e h =
+    calls_keep calls (after_take n entries ws) n pair (take_announces_all ws n entries w pair e h)
 
 publisher_is : (asked : Option ℕ) (publisher : ℕ) → is_publisher asked publisher ≡ true
     → MatchOption asked (Unit {0}) (λ q. q ≡ publisher)

@@ -29,24 +29,24 @@ abbrev pub tells : ℕ → List Entry → List Watching → List Pair
 tells n entries ws = news_of (watch_of n ws) entries
 
 -- The watcher was given the publication, or counts it as reported.
-abbrev pub was_reported : Option Watching → Pair → Bool
-was_reported None pair = false
-was_reported (Some w) pair = contains pair_cmp w.reported pair
+abbrev pub was_announced : Option Watching → Pair → Bool
+was_announced None pair = false
+was_announced (Some w) pair = contains pair_cmp w.announced pair
 
 -- A publication that a take reported is reported by no later take of that watcher.
-abbrev pub IsReportedOnce : Type 0
-IsReportedOnce = (ws : List Watching) (n : ℕ) (first : List Entry) (between : List WatchCall) (later : List Entry)
+abbrev pub IsAnnouncedOnce : Type 0
+IsAnnouncedOnce = (ws : List Watching) (n : ℕ) (first : List Entry) (between : List WatchCall) (later : List Entry)
     (pair : Pair)
     → contains pair_cmp (tells n first ws) pair ≡ true
     → contains pair_cmp (tells n later (after_watch_calls between (after_take n first ws))) pair ≡ false
 
 -- After a take, and any calls after it, each entry of its catalogue that the pattern is for is reported.
-abbrev pub AllIsReported : Type 0
-AllIsReported = (ws : List Watching) (n : ℕ) (entries : List Entry) (calls : List WatchCall) (w : Watching)
+abbrev pub AllIsAnnounced : Type 0
+AllIsAnnounced = (ws : List Watching) (n : ℕ) (entries : List Entry) (calls : List WatchCall) (w : Watching)
     (pair : Pair)
     → watch_of n ws ≡ Some w
     → contains pair_cmp (map publication_of (filter (is_for w.pattern) entries)) pair ≡ true
-    → was_reported (watch_of n (after_watch_calls calls (after_take n entries ws))) pair ≡ true
+    → was_announced (watch_of n (after_watch_calls calls (after_take n entries ws))) pair ≡ true
 
 -- The test is the fact.
 abbrev pub AcceptsByPrefix : Type 0

@@ -15,11 +15,11 @@ most_watchers = 16
 -- What a watcher asks for, and the publications that were reported to it, in order.
 pub record Watching : Type 0 where
   pub pattern : Pattern
-  pub reported : List Pair
+  pub announced : List Pair
 
 -- A new watcher counts as reported what is catalogued already.
 abbrev pub watching : Pattern → List Entry → Watching
-watching pattern entries = record { pattern = pattern; reported = map publication_of entries }
+watching pattern entries = record { pattern = pattern; announced = map publication_of entries }
 
 -- The pattern is for the entry.
 abbrev pub is_for : Pattern → Entry → Bool
@@ -27,19 +27,19 @@ is_for pattern e = accepts pattern e.publisher e.name
 
 -- The watcher asks for the entry, which was not reported to it.
 abbrev pub is_news : Watching → Entry → Bool
-is_news w e = is_for w.pattern e && not (contains pair_cmp w.reported (publication_of e))
+is_news w e = is_for w.pattern e && not (contains pair_cmp w.announced (publication_of e))
 
 -- What is new to a watcher in a catalogue, in order.
 abbrev pub news : Watching → List Entry → List Pair
 news w entries = map publication_of (filter (is_news w) entries)
 
 -- The watcher once it was given that.
-abbrev pub reported_news : Watching → List Entry → Watching
-reported_news w entries = record w { reported = insert_keys pair_cmp (news w entries) w.reported }
+abbrev pub with_news : Watching → List Entry → Watching
+with_news w entries = record w { announced = insert_keys pair_cmp (news w entries) w.announced }
 
 -- Those of the publications in order that stand after this one.
-abbrev pub reported_after : Pair → List Pair → List Pair
-reported_after pair reported = filter (λ other. is_lt (pair_cmp pair other)) reported
+abbrev pub announced_after : Pair → List Pair → List Pair
+announced_after pair announced = filter (λ other. is_lt (pair_cmp pair other)) announced
 
 -- ---- by number, from 1 on
 
@@ -59,7 +59,7 @@ news_of (Some w) entries = news w entries
 abbrev pub after_take : ℕ → List Entry → List Watching → List Watching
 after_take n entries [] = []
 after_take zero entries (w ∷ ws) = w ∷ ws
-after_take (suc zero) entries (w ∷ ws) = reported_news w entries ∷ ws
+after_take (suc zero) entries (w ∷ ws) = with_news w entries ∷ ws
 after_take (suc (suc n)) entries (w ∷ ws) = w ∷ after_take (suc n) entries ws
 
 -- The watchers with one more.

@@ -1,10 +1,10 @@
 ghost use Rattle.std.specs.Prelude.{◌≡◌, map, IfOk, OnOk, OnErr};
 ghost use Rattle.repo_catalog.specs.Entries.{publication_of, IsCatalogue};
-ghost use Rattle.repo_watch.specs.Watching.{watching, news, reported_news};
+ghost use Rattle.repo_watch.specs.Watching.{watching, news, with_news};
 
+use crate::announced::{add, pass};
 use crate::filter::Filter;
 use crate::pattern::Pattern;
-use crate::reported::{add, pass};
 use repo_catalog::{Catalogue, Entry};
 use std::alloc::{AllocError, Global};
 use std::marker::Model;
@@ -13,7 +13,7 @@ use std::marker::Model;
 #[derive(Debug, Drop)]
 pub(crate) struct Watcher {
     pattern: Pattern,
-    reported: Vec<(u32, u16)>,
+    announced: Vec<(u32, u16)>,
 }
 
 impl Model for Watcher {
@@ -23,9 +23,9 @@ impl Model for Watcher {
 
     ghost Value = { Watching };
 
-    ghost view = { λ w. record { pattern = w.pattern; reported = w.reported.items } };
+    ghost view = { λ w. record { pattern = w.pattern; announced = w.announced.items } };
 
-    ghost invariant = { λ w. Rises pair_cmp w.reported.items };
+    ghost invariant = { λ w. Rises pair_cmp w.announced.items };
 }
 
 impl Watcher {
@@ -37,8 +37,8 @@ impl Watcher {
     ) -> Result<Watcher, AllocError>
         ensures { IfOk result (λ w. w ≡ watching pattern catalogue.now.entries) }
     {
-        let reported = publications(alloc, catalogue.entries())?;
-        Ok(Watcher { pattern, reported })
+        let announced = publications(alloc, catalogue.entries())?;
+        Ok(Watcher { pattern, announced })
     }
 
     // Tells the news of a catalogue.
@@ -49,11 +49,11 @@ impl Watcher {
         catalogue: &Catalogue,
     ) -> Result<Vec<(u32, u16)>, AllocError>
         ensures news { IfOk result (λ pairs. pairs.items ≡ news self.old catalogue.now.entries) }
-        ensures ok { OnOk result (self.new ≡ reported_news self.old catalogue.now.entries) }
+        ensures ok { OnOk result (self.new ≡ with_news self.old catalogue.now.entries) }
         ensures err { OnErr result (self.new ≡ self.old) }
     {
         let pairs = self.news(alloc, filter, catalogue.entries())?;
-        add(alloc, &mut self.reported, &pairs)?;
+        add(alloc, &mut self.announced, &pairs)?;
         Ok(pairs)
     }
 
@@ -69,14 +69,14 @@ impl Watcher {
         ensures { IfOk result (λ pairs. pairs.items ≡ news self.now entries.now) }
     {
         let mut pairs = Vec::new(alloc);
-        let mut reported = self.reported.as_slice();
+        let mut announced = self.announced.as_slice();
         for entry in entries {
             let pair = (entry.publisher, entry.seq);
-            let (was_reported, after) = pass(reported, pair);
-            if !was_reported && filter.wants(&self.pattern, entry.publisher, &entry.name) {
+            let (was_announced, after) = pass(announced, pair);
+            if !was_announced && filter.wants(&self.pattern, entry.publisher, &entry.name) {
                 pairs.push(pair)?;
             }
-            reported = after;
+            announced = after;
         }
         Ok(pairs)
     }

@@ -4,7 +4,7 @@ use Rattle.script_lang.specs.declared.line_fault.LineFault.{LineFault}
 use Rattle.script_lang.specs.declared.line_fault.LineFault.TheVariants.{Syntax, Limit, NoMemory}
 use Rattle.script_lang.specs.Kinds.{Kind, Value, word_of}
 use Rattle.script_lang.specs.Lines.{with_value, without_value, values_of, stated_of}
-use Rattle.script_lang.specs.Reading.{Gives, FaultReports, Unread, left_of, KeepsValue, ReadsWord, with_all}
+use Rattle.script_lang.specs.Reading.{Gives, IsReadFault, Unread, left_of, KeepsValue, ReadsWord, with_all}
 use Rattle.script_lang.specs.declared.verb.Verb.{Verb}
 
 -- words as they are left
@@ -68,8 +68,8 @@ all_fault (value ∷ values) fault = rw (all_fault values fault) refl
 
 -- the fault after the last word is the line's
 pub reported_at_end : (fault : LineFault) (verb : Verb) (values : List Value)
-    (read after : Result (List Value) LineFault) → read ≡ with_all values after → FaultReports fault after →
-    FaultReports fault (stated_of verb read)
+    (read after : Result (List Value) LineFault) → read ≡ with_all values after → IsReadFault fault after →
+    IsReadFault fault (stated_of verb read)
 reported_at_end Syntax verb values read after h tells = rw (h, tells, all_fault values Syntax) refl
 reported_at_end Limit verb values read after h tells = rw (h, tells, all_fault values Limit) refl
 reported_at_end NoMemory verb values read after h tells = tt

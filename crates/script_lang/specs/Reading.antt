@@ -9,15 +9,15 @@ use Rattle.script_lang.specs.Forms.{form, stated}
 use Rattle.script_lang.specs.Lines.{values_of, with_value, without_value}
 
 -- What a call answers is what reading gives, unless memory ran out.
-abbrev pub FaultReports : {A : Type 0} → LineFault → Result A LineFault → Type 0
-FaultReports NoMemory read = Unit {0}
-FaultReports Syntax read = read ≡ Err Syntax
-FaultReports Limit read = read ≡ Err Limit
+abbrev pub IsReadFault : {A : Type 0} → LineFault → Result A LineFault → Type 0
+IsReadFault NoMemory read = Unit {0}
+IsReadFault Syntax read = read ≡ Err Syntax
+IsReadFault Limit read = read ≡ Err Limit
 
 -- A call gives what reading gives, as its view has it.
 abbrev pub Gives : {X A : Type 0} → (X → A) → Result X LineFault → Result A LineFault → Type 0
 Gives view (Ok x) read = read ≡ Ok (view x)
-Gives view (Err fault) read = FaultReports fault read
+Gives view (Err fault) read = IsReadFault fault read
 
 -- Words that are left to be read, and whether a word before them left its range.
 pub record Unread : Type 0 where
@@ -37,7 +37,7 @@ ReadsWord view kind before after (Ok x) =
     (kinds : List Kind)
     → left_of (kind ∷ kinds) before ≡ with_value (view x) (left_of kinds after)
 ReadsWord view kind before after (Err fault) =
-    (kinds : List Kind) → FaultReports fault (left_of (kind ∷ kinds) before)
+    (kinds : List Kind) → IsReadFault fault (left_of (kind ∷ kinds) before)
 
 -- What is kept of a word: its value; where it left its range, something in its place, and that it did.
 abbrev pub KeepsValue : {X : Type 0} → X → Result X LineFault → Unread → Unread → Result X LineFault → Type 0
@@ -57,4 +57,4 @@ abbrev pub ReadsForm : Verb → Unread → Unread → Result Line LineFault → 
 ReadsForm verb before after (Ok x) =
     ((stated x).verb ≡ verb)
     × (left_of (form verb).kinds before ≡ with_all (stated x).values (left_of [] after))
-ReadsForm verb before after (Err fault) = FaultReports fault (left_of (form verb).kinds before)
+ReadsForm verb before after (Err fault) = IsReadFault fault (left_of (form verb).kinds before)

@@ -2,7 +2,7 @@ ghost use Rattle.std.specs.Prelude.{◌≡◌, ◌≤◌, List, ◌∷◌, [], m
 ghost use Rattle.std.specs.String.{string_bytes};
 ghost use Rattle.script_lang.specs.Forms.{publisher_value};
 ghost use Rattle.script_lang.specs.Kinds.{URI, CONTENT, Named, Kind, LABEL, N, HEX, PUBLISHER, Text, Number, Octets};
-ghost use Rattle.script_lang.specs.Reading.{left_of, KeepsValue, ReadsWord, FaultReports};
+ghost use Rattle.script_lang.specs.Reading.{left_of, KeepsValue, ReadsWord, IsReadFault};
 
 use crate::line_fault::LineFault;
 use crate::word::{content_in, hex_in, label_in, name_in, number_in, publisher_in, small_in};
@@ -45,7 +45,7 @@ impl<'a> Cursor<'a> {
         ensures ok { IfOk result (λ word. self.old
             ≡ record { over = self.new.over; words = word.now ∷ self.new.words }) }
         ensures err { IfErr result (λ fault. (kind : Kind) (kinds : List Kind)
-            → FaultReports fault (left_of (kind ∷ kinds) self.old)) }
+            → IsReadFault fault (left_of (kind ∷ kinds) self.old)) }
     {
         let [word, rest @ ..] = self.rest else {
             return Err(LineFault::Syntax);
@@ -133,7 +133,7 @@ impl<'a> Cursor<'a> {
     #[tactic(auto, unfolding(crate::specs::Lines::values_of))]
     pub(crate) fn end(&self) -> Result<(), LineFault>
         ensures ok { IfOk result (λ _. left_of [] self.now ≡ Ok []) }
-        ensures err { IfErr result (λ fault. FaultReports fault (left_of [] self.now)) }
+        ensures err { IfErr result (λ fault. IsReadFault fault (left_of [] self.now)) }
     {
         if !self.rest.is_empty() {
             return Err(LineFault::Syntax);

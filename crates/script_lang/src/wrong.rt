@@ -140,7 +140,7 @@ fn is_refused(
 ) -> Result<bool, AllocError>
     ensures { IfOk result (λ refused. refused ≡ is_refused fault (word_of (kind_of kind) word.now)) }
 {
-    match judged(alloc, word, kind) {
+    match evaluated(alloc, word, kind) {
         Ok(()) => Ok(false),
         Err(LineFault::Syntax) => Ok(matches!(fault, LineFault::Syntax)),
         Err(LineFault::Limit) => Ok(matches!(fault, LineFault::Limit)),
@@ -150,7 +150,7 @@ fn is_refused(
 
 // A word as one of this kind, without its value.
 #[tactic(auto, unfolding(crate::specs::Kinds::uri_of))]
-fn judged(alloc: Global, word: &str, kind: WordKind) -> Result<(), LineFault>
+fn evaluated(alloc: Global, word: &str, kind: WordKind) -> Result<(), LineFault>
     ensures { Gives (λ x. x) result (mapped (λ _. tt) (word_of (kind_of kind) word.now)) }
 {
     match kind {

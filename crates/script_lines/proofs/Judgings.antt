@@ -14,7 +14,7 @@ use Rattle.script_lang.specs.declared.check_fault.CheckFault.TheVariants as chec
 use Rattle.script_lang.specs.Kinds.{Value, Text, Named, Octets}
 use Rattle.script_lang.specs.Forms.{Stated, statement, stated}
 use Rattle.script_lang.specs.Lines.{line_of}
-use Rattle.script_lang.specs.Reading.{FaultReports}
+use Rattle.script_lang.specs.Reading.{IsReadFault}
 use Rattle.script_lang.specs.Checking.{Declared, after_line}
 use Rattle.script_lang.specs.Checking.{party_label}
 use Rattle.group_model.specs.World.{Environment, World}
@@ -23,11 +23,12 @@ use Rattle.group_model.specs.Refusals as group
 use Rattle.bench_world.specs.EventValues.{EventValue, group_event, event_report}
 use Rattle.script_story.specs.Mirrors.{mirror_begins}
 use Rattle.script_story.specs.StatedEvents.{pattern_for, publisher_number, stated_event}
-use Rattle.script_story.specs.ReportedTexts.{reported_text}
-use Rattle.script_story.specs.Judging.{RunEnvironment, State, says, acted, acted_by, found_world, group_named, judged}
-use Rattle.script_story.specs.Judging.{judged_line, line_taken, mirrors_begin, mirrors_after, outside_of, read}
-use Rattle.script_story.specs.Judging.{stepped}
-use Rattle.script_story.specs.Judging.{with_client_too, with_member_too}
+use Rattle.script_story.specs.ReportTexts.{report_text}
+use Rattle.script_story.specs.Evaluation.{RunEnvironment, State, accepted, acted, acted_by, found_world, group_named}
+use Rattle.script_story.specs.Evaluation.{evaluated}
+use Rattle.script_story.specs.Evaluation.{evaluated_line, line_taken, mirrors_begin, mirrors_after, outside_of, read}
+use Rattle.script_story.specs.Evaluation.{stepped}
+use Rattle.script_story.specs.Evaluation.{with_client_too, with_member_too}
 use Rattle.script_lines.specs.declared.error.LineError.{LineError}
 use Rattle.script_lines.specs.declared.error.LineError.TheVariants as error
 use Rattle.script_lines.specs.RunStates.{IsEventLine, IsLineError, IsLineErrorOf}
@@ -36,26 +37,26 @@ use Rattle.script_story.proofs.Declarations.{IsEvent, event_after}
 
 -- ---- octets
 
-pub judged_read : (env : RunEnvironment) (s : State) (octets : List ℕ) (found one : Option Line)
+pub evaluated_read : (env : RunEnvironment) (s : State) (octets : List ℕ) (found one : Option Line)
     → line_of octets ≡ Ok (option_map stated found) → found ≡ one
-    → judged env s octets ≡ read env s (Ok (option_map stated one))
-unfolding judged
-judged_read env s octets found one h is =
+    → evaluated env s octets ≡ read env s (Ok (option_map stated one))
+unfolding evaluated
+evaluated_read env s octets found one h is =
     ap (read env s) h ∙ ap (λ (o : Option Line). read env s (Ok (option_map stated o))) is
 
-pub judged_fault : (env : RunEnvironment) (s : State) (octets : List ℕ) (fault : LineFault)
-    → FaultReports fault (line_of octets)
-    → IsLineError (judged env s octets) (line_fault_error fault)
-unfolding judged
-judged_fault env s octets line_fault.Syntax h = rw h refl
-judged_fault env s octets line_fault.Limit h = rw h refl
-judged_fault env s octets line_fault.NoMemory h = tt
+pub evaluated_fault : (env : RunEnvironment) (s : State) (octets : List ℕ) (fault : LineFault)
+    → IsReadFault fault (line_of octets)
+    → IsLineError (evaluated env s octets) (line_fault_error fault)
+unfolding evaluated
+evaluated_fault env s octets line_fault.Syntax h = rw h refl
+evaluated_fault env s octets line_fault.Limit h = rw h refl
+evaluated_fault env s octets line_fault.NoMemory h = tt
 
 -- ---- lines that are refused
 
 stops_at : (env : RunEnvironment) (s : State) (l : Stated) (fault : CheckFault) → after_line s.declared l ≡ Err fault
-    → IsLineError (judged_line env s l) (check_line_error fault)
-unfolding judged_line
+    → IsLineError (evaluated_line env s l) (check_line_error fault)
+unfolding evaluated_line
 stops_at env s l check_fault.NoGroup h = rw h refl
 stops_at env s l check_fault.Late h = rw h refl
 stops_at env s l check_fault.UnknownLabel h = rw h refl
@@ -66,21 +67,21 @@ stops_at env s l check_fault.NoMemory h = tt
 
 pub refused_line : (env : RunEnvironment) (s : State) (l : Stated) (fault : CheckFault)
     → (fault ≡ check_fault.NoMemory) ⊎ (after_line s.declared l ≡ Err fault)
-    → IsLineError (judged_line env s l) (check_line_error fault)
+    → IsLineError (evaluated_line env s l) (check_line_error fault)
 refused_line env s l fault (inl out) =
-    subst (λ (f : CheckFault). IsLineError (judged_line env s l) (check_line_error f)) (sym out) tt
+    subst (λ (f : CheckFault). IsLineError (evaluated_line env s l) (check_line_error f)) (sym out) tt
 refused_line env s l fault (inr h) = stops_at env s l fault h
 
 -- ---- lines that are taken
 
 pub taken_line : (env : RunEnvironment) (s : State) (d : Declared) (l : Stated) → after_line s.declared l ≡ Ok d
-    → judged_line env s l ≡ line_taken env s d l
-unfolding judged_line
+    → evaluated_line env s l ≡ line_taken env s d l
+unfolding evaluated_line
 taken_line env s d l h = rw h refl
 
 pub group_says : (env : RunEnvironment) (s : State) (d : Declared) (name : List Component)
     → line_taken env s d (statement verb.Group (Named name ∷ []))
-    ≡ says [] (record {
+    ≡ accepted [] (record {
       declared = d;
       keys = group_named name;
       world = s.world;
@@ -93,7 +94,7 @@ group_says env s d name = refl
 pub member_says : (env : RunEnvironment) (s : State) (d : Declared) (label : List ℕ) (node : List Component)
     (key : List ℕ)
     → line_taken env s d (statement verb.Member (Text label ∷ Named node ∷ Octets key ∷ []))
-    ≡ says [] (record {
+    ≡ accepted [] (record {
       declared = d;
       keys = with_member_too node key s.keys;
       world = s.world;
@@ -106,7 +107,7 @@ member_says env s d label node key = refl
 pub client_says : (env : RunEnvironment) (s : State) (d : Declared) (label : List ℕ) (node : List Component)
     (key : List ℕ)
     → line_taken env s d (statement verb.Client (Text label ∷ Named node ∷ Octets key ∷ []))
-    ≡ says [] (record {
+    ≡ accepted [] (record {
       declared = d;
       keys = with_client_too node key s.keys;
       world = s.world;
@@ -119,7 +120,7 @@ client_says env s d label node key = refl
 pub mirror_says : (env : RunEnvironment) (s : State) (d : Declared) (label : List ℕ) (publisher : Value)
     (prefix : List Component)
     → line_taken env s d (statement verb.Mirror (Text label ∷ publisher ∷ Named prefix ∷ []))
-    ≡ says [] (record {
+    ≡ accepted [] (record {
       declared = d;
       keys = s.keys;
       world = s.world;
@@ -172,7 +173,7 @@ states_some d l is h = cc
 
 pub acted_says : (env : RunEnvironment) (s : State) (d : Declared) (e : EventValue)
     → group.refusal (outside_of env s.keys) (found_world env s) (group_event s.keys e) ≡ None
-    → acted env s d e ≡ says (reported_text (map party_label d.members)
+    → acted env s d e ≡ accepted (report_text (map party_label d.members)
     (event_report s.keys (outside_of env s.keys) (found_world env s) e))
     (record {
       declared = d;

@@ -7,7 +7,7 @@ use Rattle.script_lang.specs.Kinds.{Value, Text, Number, Named}
 use Rattle.script_lang.specs.Forms.{Stated, statement}
 use Rattle.script_lang.specs.Checking.{Declared, are_members, is_mirror, labels_in, party_label}
 use Rattle.script_lang.proofs.Conditions.{and_left}
-use Rattle.group_model.specs.World.{World, opening_world}
+use Rattle.group_model.specs.World.{World, initial_world}
 use Rattle.group_model.specs.Refusals as group
 use Rattle.repo_member.specs.Groups.{GroupKeys}
 use Rattle.bench_world.specs.EventValues.{EventValue}
@@ -20,10 +20,11 @@ use Rattle.script_lines.specs.declared.error.LineError.{LineError}
 use Rattle.script_lines.specs.declared.error.LineError.TheVariants as error
 use Rattle.script_story.specs.Mirrors.{Mirroring, mirror_as, mirror_begins, mirror_of, mirrored_entries}
 use Rattle.script_story.specs.StatedEvents.{mirror_number, pattern_for, publisher_number}
-use Rattle.script_story.specs.ReportedTexts.{listing_text}
-use Rattle.script_story.specs.Judging.{RunEnvironment, State, begun_world, fetched_by, found_world, heard_by, heard_if}
-use Rattle.script_story.specs.Judging.{line_taken, listed_by, mirror_fetched, mirror_heard, mirror_listed}
-use Rattle.script_story.specs.Judging.{mirrors_after, says}
+use Rattle.script_story.specs.ReportTexts.{listing_text}
+use Rattle.script_story.specs.Evaluation.{RunEnvironment, State, begun_world, fetched_by, found_world, heard_by}
+use Rattle.script_story.specs.Evaluation.{heard_if}
+use Rattle.script_story.specs.Evaluation.{line_taken, listed_by, mirror_fetched, mirror_heard, mirror_listed}
+use Rattle.script_story.specs.Evaluation.{mirrors_after, accepted}
 use Rattle.script_lines.specs.RunStates.{FetchFits, IsAtEvent, IsBeforeEvents, IsDeclared, IsLineError, IsLineErrorOf}
 use Rattle.script_lines.specs.RunStates.{LineIsChecked, MirrorIsThere, NamesAreDeclared, Stands, labels_of}
 use Rattle.script_lines.specs.RunStates.{mirrors_in, state_of_run, phase_keys, state_of, world_in}
@@ -43,7 +44,7 @@ pub record DeclaresMirror (env : RunEnvironment) (p : RunState) (s : Stated) (pu
   pub early : IsBeforeEvents p.phase p.words
   pub declared : IsDeclared (labels_of p) (phase_keys p.phase) (length p.watchers.items)
       (length (mirrors_in p.phase) + 1) p.words
-  pub says : Says env p s (phase_keys p.phase) p.watchers.items
+  pub accepted : Says env p s (phase_keys p.phase) p.watchers.items
       (mirrors_in p.phase ++ mirror_begins (length (phase_keys p.phase).members.names)
       (pattern_for (publisher_number p.words publisher) prefix) ∷ [])
 
@@ -75,8 +76,8 @@ mirror_at env p label publisher prefix c =
         mirrored = omega (arith, one, was.mirrored);
         few = omega (arith, one, may.few);
       };
-      says = mirror_says env (state_of_run p) p.words label publisher prefix
-          ∙ (λ i. says [] (record {
+      accepted = mirror_says env (state_of_run p) p.words label publisher prefix
+          ∙ (λ i. accepted [] (record {
             declared = p.words;
             keys = phase_keys p.phase;
             world = no_world p.phase unchanged i;
@@ -199,7 +200,7 @@ heard_if_stops (Some why) w s d k i label error.Foreign h = h
 -- In the world that is found it is refused as in the one that is kept.
 pub heard_stops : (draw : ℕ → ℕ → ℕ) (phase found : Phase) (ws : List (List Watching)) (d : Declared) (w : World)
     (k i : ℕ) (label : List ℕ) (error : LineError) → found ≡ phase
-    → w ≡ unwrap_or (world_in found) (opening_world (drawing draw) (length (phase_keys found).members.names))
+    → w ≡ unwrap_or (world_in found) (initial_world (drawing draw) (length (phase_keys found).members.names))
     → IsLineErrorOf (group.unless_sent w k) error
     → IsLineError (mirror_heard (begun_world draw (state_of phase ws d)) (state_of phase ws d) d k i label) error
 heard_stops draw phase found ws d w k i label error is v h =
@@ -214,11 +215,11 @@ heard_stops draw phase found ws d w k i label error is v h =
 pub listed_kept : (draw : ℕ → ℕ → ℕ) (phase found : Phase) (ws : List (List Watching)) (d : Declared)
     (s : GroupState) (labels : List (List ℕ)) (i : ℕ) (label report : List ℕ) → found ≡ phase
     → world_of s
-    ≡ unwrap_or (world_in found) (opening_world (drawing draw) (length (phase_keys found).members.names))
+    ≡ unwrap_or (world_in found) (initial_world (drawing draw) (length (phase_keys found).members.names))
     → s.keys ≡ phase_keys found → map mirror_as s.mirrors ≡ mirrors_in found → labels ≡ map party_label d.members
     → report ≡ listing_text labels label (mirrored_entries (world_of s) (mirror_of (map mirror_as s.mirrors) i))
     → mirror_listed (begun_world draw (state_of phase ws d)) (state_of phase ws d) d i label
-    ≡ says report (state_of (Acting s) ws d)
+    ≡ accepted report (state_of (Acting s) ws d)
 listed_kept draw phase found ws d s labels i label report is v keys mirrors named text =
     let begun : World = begun_world draw (state_of phase ws d) in
     let same : world_of s ≡ begun = v ∙ ap (λ (x : Phase). begun_world draw (state_of x ws d)) is in
@@ -227,9 +228,9 @@ listed_kept draw phase found ws d s labels i label report is v keys mirrors name
     let its_text : report
     ≡ listing_text (map party_label d.members) label (mirrored_entries begun (mirror_of (mirrors_in phase) i)) =
     text ∙ (λ n. listing_text (named n) label (mirrored_entries (same n) (mirror_of (its_mirrors n) i))) in
-    let back : says report (state_of (Acting s) ws d)
+    let back : accepted report (state_of (Acting s) ws d)
     ≡ mirror_listed begun (state_of phase ws d) d i label =
-    λ n. says (its_text n) (record {
+    λ n. accepted (its_text n) (record {
       declared = d;
       keys = its_keys n;
       world = Some (same n);

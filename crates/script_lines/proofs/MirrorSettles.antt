@@ -20,7 +20,7 @@ use Rattle.group_model.proofs.Lists.{at_in}
 use Rattle.group_model.proofs.Parents.{parent_of_parent}
 use Rattle.group_model.proofs.Settles.{holder, someone, someone_lists}
 use Rattle.sorted_lists.proofs.Sets.{In}
-use Rattle.repo_mirror.specs.Asked.{is_kept}
+use Rattle.repo_mirror.specs.Asked.{is_for}
 use Rattle.repo_mirror.specs.Mirrors.{ComeInTurn, IsPartAskedFor, IsWantedByMirror, Mirror, mirror_gains}
 use Rattle.repo_mirror.specs.Mirrors.{mirror_holds, path_to, unless_held}
 use Rattle.repo_mirror.specs.MirrorLaws.{learns_all}
@@ -28,26 +28,26 @@ use Rattle.repo_mirror.proofs.Gains.{gains_known}
 use Rattle.repo_mirror.specs.MirrorState.{MirrorState}
 use Rattle.repo_mirror.specs.ConsistentMirrors.{mirror_in_group}
 use Rattle.bench_world.specs.MirrorSettles.{HasSettled}
-use Rattle.script_story.specs.Mirrors.{comes_to, mirror_as, mirror_settles}
+use Rattle.script_story.specs.Mirrors.{is_gained, mirror_as, mirror_settles}
 
 -- ---- what comes in turn
 
 -- A part that comes is one that could, by what the mirror knows and its pattern.
 record Comes (pattern : Pattern) (ls : Logs) (members : List Member) (known : List ℕ) (t : Part) : Type 0 where
-  reported : t.seq ≤ slice_index known t.publisher
+  printed : t.seq ≤ slice_index known t.publisher
   publisher : is_publisher pattern.publisher t.publisher ≡ true
-  part : (t.part == 0 || is_kept pattern ls (pair_of t)) ≡ true
+  part : (t.part == 0 || is_for pattern ls (pair_of t)) ≡ true
   someones : someone_holds members t ≡ true
 
 module _ (pattern : Pattern) (ls : Logs) (members : List Member) where
   comes_wanted : (m : Mirror) (t : Part) → IsWantedByMirror pattern ls m t → someone_holds members t ≡ true
       → Comes pattern ls members m.known t
   comes_wanted m t h held = record {
-    reported = h.known.to_known;
+    printed = h.known.to_known;
     publisher = h.publisher;
     part = elim h.part [
-      | inl z ↦ or_left (t.part == 0) (is_kept pattern ls (pair_of t)) (eq-eqb t.part 0 z)
-      | inr s ↦ or_right (t.part == 0) (is_kept pattern ls (pair_of t)) s.accepted
+      | inl z ↦ or_left (t.part == 0) (is_for pattern ls (pair_of t)) (eq-eqb t.part 0 z)
+      | inr s ↦ or_right (t.part == 0) (is_for pattern ls (pair_of t)) s.accepted
     ];
     someones = held;
   }
@@ -106,22 +106,22 @@ held_soundly w s t h =
 
 module _ (w : World) (s : IsSoundGroup w) (old new : MirrorState) (h : HasSettled w old new) where
   -- What comes to the mirror in parts, and back.
-  comes : (t : Part) → comes_to w (mirror_as old) t ≡ true
+  comes : (t : Part) → is_gained w (mirror_as old) t ≡ true
       → Comes old.pattern (logs w) w.members (join old.known (settled_vector w)) t
   comes t c =
       let known : List ℕ = join old.known (settled_vector w) in
       let a = and_parts (nat_le t.seq (slice_index known t.publisher)) _ c in
       let b = and_parts (is_publisher old.pattern.publisher t.publisher) _ a.1 in
-      let d = and_parts (t.part == 0 || is_kept old.pattern (logs w) (pair_of t)) (someone_holds w.members t) b.1 in
-      record { reported = leb-true t.seq _ a.0; publisher = b.0; part = d.0; someones = d.1 }
+      let d = and_parts (t.part == 0 || is_for old.pattern (logs w) (pair_of t)) (someone_holds w.members t) b.1 in
+      record { printed = leb-true t.seq _ a.0; publisher = b.0; part = d.0; someones = d.1 }
 
   come : (t : Part) → Comes old.pattern (logs w) w.members (join old.known (settled_vector w)) t
-      → comes_to w (mirror_as old) t ≡ true
+      → is_gained w (mirror_as old) t ≡ true
   come t c =
       and_from (nat_le t.seq (slice_index (join old.known (settled_vector w)) t.publisher)) _
-      (le-leb t.seq _ c.reported)
+      (le-leb t.seq _ c.printed)
       (and_from (is_publisher old.pattern.publisher t.publisher) _ c.publisher
-      (and_from (t.part == 0 || is_kept old.pattern (logs w) (pair_of t)) (someone_holds w.members t) c.part
+      (and_from (t.part == 0 || is_for old.pattern (logs w) (pair_of t)) (someone_holds w.members t) c.part
       c.someones))
 
   -- It holds a part that comes, if it is a record, or what lists it is held.
@@ -135,7 +135,7 @@ module _ (w : World) (s : IsSoundGroup w) (old new : MirrorState) (h : HasSettle
     sound : IsHeld w t
     sound = held_soundly w s t c.someones
 
-    part : (z : Bool) → (t.part == 0) ≡ z → (z || is_kept old.pattern (logs w) (pair_of t)) ≡ true
+    part : (z : Bool) → (t.part == 0) ≡ z → (z || is_for old.pattern (logs w) (pair_of t)) ≡ true
         → (t.part ≡ 0) ⊎ IsPartAskedFor old.pattern (logs w) (mirror_in_group new) t
     part true z kept = inl (eqb-true t.part 0 z)
     part false z kept =
@@ -152,7 +152,7 @@ module _ (w : World) (s : IsSoundGroup w) (old new : MirrorState) (h : HasSettle
     wanted free = record {
       known = record {
         from_one = sound.from_one;
-        to_known = subst (λ (known : List ℕ). t.seq ≤ slice_index known t.publisher) (sym h.known) c.reported;
+        to_known = subst (λ (known : List ℕ). t.seq ≤ slice_index known t.publisher) (sym h.known) c.printed;
       };
       publisher = c.publisher;
       part = part (t.part == 0) refl c.part;
@@ -164,10 +164,10 @@ module _ (w : World) (s : IsSoundGroup w) (old new : MirrorState) (h : HasSettle
       → (t.part == 0) ≡ false → someone_holds w.members (part_of (pair_of t) x) ≡ true
       → Comes old.pattern (logs w) w.members (join old.known (settled_vector w)) (part_of (pair_of t) x)
   comes_too t x c after held = record {
-    reported = c.reported;
+    printed = c.printed;
     publisher = c.publisher;
-    part = or_right (x == 0) (is_kept old.pattern (logs w) (pair_of t))
-        (subst (λ (z : Bool). (z || is_kept old.pattern (logs w) (pair_of t)) ≡ true) after c.part);
+    part = or_right (x == 0) (is_for old.pattern (logs w) (pair_of t))
+        (subst (λ (z : Bool). (z || is_for old.pattern (logs w) (pair_of t)) ≡ true) after c.part);
     someones = held;
   }
 
@@ -190,18 +190,18 @@ module _ (w : World) (s : IsSoundGroup w) (old new : MirrorState) (h : HasSettle
       ∙ record_held t c after)
 
   held_as : (t : Part) → mirror_holds (mirror_in_group new) t
-      ≡ (mirror_holds (mirror_in_group old) t || comes_to w (mirror_as old) t)
+      ≡ (mirror_holds (mirror_in_group old) t || is_gained w (mirror_as old) t)
   held_as t =
       both_ways (mirror_holds (mirror_in_group new) t)
-      (mirror_holds (mirror_in_group old) t || comes_to w (mirror_as old) t)
+      (mirror_holds (mirror_in_group old) t || is_gained w (mirror_as old) t)
       (λ held. elim (cases_Bool (mirror_holds (mirror_in_group old) t)) [
-        | inl was ↦ or_left (mirror_holds (mirror_in_group old) t) (comes_to w (mirror_as old) t) was
+        | inl was ↦ or_left (mirror_holds (mirror_in_group old) t) (is_gained w (mirror_as old) t) was
         | inr free ↦
-            or_right (mirror_holds (mirror_in_group old) t) (comes_to w (mirror_as old) t)
+            or_right (mirror_holds (mirror_in_group old) t) (is_gained w (mirror_as old) t)
             (come t (comes_by_path old.pattern (logs w) w.members (learns_all w (mirror_in_group old)) t
             (h.gains.only t held free)))
       ])
-      (λ both. elim (or_cases (mirror_holds (mirror_in_group old) t) (comes_to w (mirror_as old) t) both) [
+      (λ both. elim (or_cases (mirror_holds (mirror_in_group old) t) (is_gained w (mirror_as old) t) both) [
         | inl was ↦ h.kept t was
         | inr c ↦ held_if t (comes t c) (parent_held t (comes t c))
       ])

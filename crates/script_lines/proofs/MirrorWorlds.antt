@@ -23,7 +23,7 @@ use Rattle.group_model.specs.World.{World, logs}
 use Rattle.group_model.specs.Sound.{IsPublishedPart}
 use Rattle.group_model.proofs.PublicLaws.{all_parts_rise, parts_are_those}
 use Rattle.group_model.proofs.Tries.{rises_take, tried-at}
-use Rattle.repo_mirror.specs.Asked.{is_kept}
+use Rattle.repo_mirror.specs.Asked.{is_for}
 use Rattle.repo_mirror.specs.Mirrors.{IsPartAskedFor, IsWantedByMirror, mirror_holds, mirror_plan}
 use Rattle.repo_mirror.specs.MirrorState.{MirrorState}
 use Rattle.repo_mirror.specs.ConsistentMirrors.{IsConsistentMirror, mirror_in_group}
@@ -94,7 +94,7 @@ module _ (g : GroupKeys) (w : World) (m : MirrorState) (consistent : IsConsisten
           | inr s ↦
               or_right (t.part == 0) (is_asked_for (logs w) (mirror_as m) t)
               (and_from (mirror_holds (mirror_in_group m) (parent (shape_at (logs w) (pair_of t)) t))
-              (is_kept m.pattern (logs w) (pair_of t)) s.with_parent s.accepted)
+              (is_for m.pattern (logs w) (pair_of t)) s.with_parent s.accepted)
         ]
 
   so_wants : (t : Part) → IsPublishedPart (logs w) t → is_wanted_by (logs w) (mirror_as m) t ≡ true
@@ -116,7 +116,7 @@ module _ (g : GroupKeys) (w : World) (m : MirrorState) (consistent : IsConsisten
             let above = eqb-false t.part 0 z in
             let both =
             and_parts (mirror_holds (mirror_in_group m) (parent (shape_at (logs w) (pair_of t)) t))
-            (is_kept m.pattern (logs w) (pair_of t)) asked in
+            (is_for m.pattern (logs w) (pair_of t)) asked in
             inr (record {
               from_one = omega (arith, above);
               counted = there.counted;
@@ -186,13 +186,13 @@ module _ (passes : ℕ → ℕ → ℕ → ℕ → ℕ → ℕ → Bool) (g : Gr
 
   counted_as : counted passes w i tries loss (mirror_as old) ≡ mirror_counts passes w i tries loss old
   counted_as =
-      ap (filter (λ t. is_kept old.pattern (logs w) (pair_of t)
+      ap (filter (λ t. is_for old.pattern (logs w) (pair_of t)
       || not (is_some (mirror_attempt passes w i tries loss old t)))) asked_as
 
   counted_rise : Rises part_cmp (mirror_counts passes w i tries loss old)
   counted_rise =
       rises_filter exact_parts.total
-      (λ t. is_kept old.pattern (logs w) (pair_of t) || not (is_some (mirror_attempt passes w i tries loss old t)))
+      (λ t. is_for old.pattern (logs w) (pair_of t) || not (is_some (mirror_attempt passes w i tries loss old t)))
       (mirror_asks w old)
       (rises_take 4096 (mirror_wants w old) (wanted_rises (mirror_plan old.pattern (logs w) (mirror_in_group old))))
 

@@ -23,18 +23,19 @@ use Rattle.repo_watch.specs.Watching.{Watching}
 use Rattle.script_lines.specs.declared.run_state.RunState.{RunState}
 use Rattle.script_lines.specs.declared.run_state.Phase.{Phase}
 use Rattle.script_lines.specs.declared.run_state.Phase.TheVariants.{Opening, Declaring, Acting}
-use Rattle.script_story.specs.Judging.{RunEnvironment, State, Verdict, says, acted, acted_by, acted_if, found_world}
-use Rattle.script_story.specs.Judging.{group_named}
-use Rattle.script_story.specs.Judging.{outside_of, judged_line, line_taken, no_group, taken_by, with_client_too}
-use Rattle.script_story.specs.Judging.{declaring_mirror, fetched_by, heard_by, heard_if, listed_by, mirrors_begin}
-use Rattle.script_story.specs.Judging.{mirrors_after, told_by, watched_by, with_member_too}
+use Rattle.script_story.specs.Evaluation.{RunEnvironment, State, Verdict, accepted, acted, acted_by, acted_if}
+use Rattle.script_story.specs.Evaluation.{found_world}
+use Rattle.script_story.specs.Evaluation.{group_named}
+use Rattle.script_story.specs.Evaluation.{outside_of, evaluated_line, line_taken, no_group, taken_by, with_client_too}
+use Rattle.script_story.specs.Evaluation.{declaring_mirror, fetched_by, heard_by, heard_if, listed_by, mirrors_begin}
+use Rattle.script_story.specs.Evaluation.{mirrors_after, told_by, watched_by, with_member_too}
 use Rattle.script_lines.specs.RunStates.{HasStepped, IsAtEvent, IsBeforeEvents, IsDeclared, IsEventLine, IsNewNode}
 use Rattle.script_lines.specs.RunStates.{IsLineError, IsLineErrorOf, LineIsChecked, NamesAreDeclared, StatesEvent}
 use Rattle.script_lines.specs.RunStates.{has_group}
 use Rattle.script_lines.specs.RunStates.{has_world, labels_of, mirrors_in, state_of_run, phase_keys, state_of}
 use Rattle.script_lines.specs.RunStates.{world_in}
 use Rattle.script_lines.specs.declared.error.LineError.{LineError}
-use Rattle.script_story.specs.ReportedTexts.{reported_text}
+use Rattle.script_story.specs.ReportTexts.{report_text}
 use Rattle.script_story.specs.Mirrors.{Mirroring, mirror_as}
 use Rattle.script_story.specs.StatedEvents.{mirror_number, stated_event}
 use Rattle.script_story.proofs.Fitting.{client_fits, event_fits, group_fits, member_fits}
@@ -60,12 +61,12 @@ same_watched : (env : RunEnvironment) (phase : Phase) (ws : List (List Watching)
 same_watched env phase ws d e (Text m ∷ publisher ∷ Named prefix ∷ []) = refl
 same_watched env phase ws d e values = refl
 
-same_reported : (env : RunEnvironment) (phase : Phase) (ws : List (List Watching)) (d e : Declared)
+same_announced : (env : RunEnvironment) (phase : Phase) (ws : List (List Watching)) (d e : Declared)
     (values : List Value)
     → told_by (found_world env (state_of phase ws d)) (state_of phase ws d) e values
     ≡ told_by (found_world env (state_of phase ws e)) (state_of phase ws e) e values
-same_reported env phase ws d e (Text m ∷ Number number ∷ []) = refl
-same_reported env phase ws d e values = refl
+same_announced env phase ws d e (Text m ∷ Number number ∷ []) = refl
+same_announced env phase ws d e values = refl
 
 same_mirror : (env : RunEnvironment) (phase : Phase) (ws : List (List Watching)) (d e : Declared) (values : List Value)
     → declaring_mirror (state_of phase ws d) e values ≡ declaring_mirror (state_of phase ws e) e values
@@ -105,7 +106,7 @@ same_taken env phase ws d e verb.Member s = refl
 same_taken env phase ws d e verb.Client s = refl
 same_taken env phase ws d e verb.Watch s = same_watched env phase ws d e s.values
 same_taken env phase ws d e verb.Mirror s = same_mirror env phase ws d e s.values
-same_taken env phase ws d e verb.Told s = same_reported env phase ws d e s.values
+same_taken env phase ws d e verb.Told s = same_announced env phase ws d e s.values
 same_taken env phase ws d e verb.Mdeliver s = same_heard env phase ws d e s.values
 same_taken env phase ws d e verb.Mfetch s = same_fetched env phase ws d e s.values
 same_taken env phase ws d e verb.Mcatalogue s = same_listed env phase ws d e s.values
@@ -113,7 +114,7 @@ same_taken env phase ws d e v s = same_acted_by env phase ws d e s
 
 pub line_is_taken : (env : RunEnvironment) (phase : Phase) (ws : List (List Watching)) (d e : Declared) (s : Stated)
     → after_line d s ≡ Ok e
-    → judged_line env (state_of phase ws d) s ≡ line_taken env (state_of phase ws e) e s
+    → evaluated_line env (state_of phase ws d) s ≡ line_taken env (state_of phase ws e) e s
 unfolding line_taken
 line_is_taken env phase ws d e s after =
     taken_line env (state_of phase ws d) e s after ∙ same_taken env phase ws d e s.verb s
@@ -139,7 +140,7 @@ is_opening (Acting world) h = absurd (true≢false h)
 abbrev pub Says : RunEnvironment → RunState → Stated → GroupKeys → List (List Watching) → List Mirroring → Type 0
 Says env p s keys after mirrors =
     line_taken env (state_of_run p) p.words s
-    ≡ says [] (record { declared = p.words; keys = keys; world = None; watchers = after; mirrors = mirrors })
+    ≡ accepted [] (record { declared = p.words; keys = keys; world = None; watchers = after; mirrors = mirrors })
 
 -- ---- the group
 
@@ -148,7 +149,7 @@ pub record Grouped (env : RunEnvironment) (p : RunState) (s : Stated) (name : Li
   pub group : p.words.group ≡ true
   pub early : p.words.events ≡ false
   pub declared : IsDeclared (labels_of p) (group_named name) (length p.watchers.items) 0 p.words
-  pub says : Says env p s (group_named name) p.watchers.items []
+  pub accepted : Says env p s (group_named name) p.watchers.items []
 
 grouped_at : (env : RunEnvironment) (p : RunState) (name : List Component)
     → LineIsChecked p (statement verb.Group (Named name ∷ []))
@@ -174,8 +175,8 @@ grouped_at env p name c =
         mirrored = omega (arith, same, nobody, was.mirrored);
         few = omega (arith, same, was.few);
       };
-      says = group_says env (state_of_run p) p.words name
-          ∙ (λ i. says [] (record {
+      accepted = group_says env (state_of_run p) p.words name
+          ∙ (λ i. accepted [] (record {
             declared = p.words;
             keys = group_named name;
             world = none.world i;
@@ -199,7 +200,7 @@ pub record Declares (env : RunEnvironment) (p : RunState) (s : Stated) (node : L
   pub early : IsBeforeEvents p.phase p.words
   pub few : many < 16
   pub declared : IsDeclared labels keys members (length (mirrors_in p.phase)) p.words
-  pub says : Says env p s keys after mirrors
+  pub accepted : Says env p s keys after mirrors
 
 abbrev pub MemberDeclares : RunEnvironment → RunState → Stated → List ℕ → List Component → List ℕ → Type 0
 MemberDeclares env p s label node key =
@@ -249,8 +250,8 @@ member_at env p label node key c =
         mirrored = was.mirrored ∙ sym same;
         few = omega (arith, same, was.few);
       };
-      says = member_says env (state_of_run p) p.words label node key
-          ∙ ap (λ (w : Option World). says [] (record {
+      accepted = member_says env (state_of_run p) p.words label node key
+          ∙ ap (λ (w : Option World). accepted [] (record {
             declared = p.words;
             keys = with_member_too node key keys;
             world = w;
@@ -314,8 +315,8 @@ client_at env p label node key c =
         mirrored = was.mirrored ∙ sym same;
         few = omega (arith, same, was.few);
       };
-      says = client_says env (state_of_run p) p.words label node key
-          ∙ ap (λ (w : Option World). says [] (record {
+      accepted = client_says env (state_of_run p) p.words label node key
+          ∙ ap (λ (w : Option World). accepted [] (record {
             declared = p.words;
             keys = with_client_too node key keys;
             world = w;
@@ -371,8 +372,8 @@ event_acts env p l is c =
       states = record {
         event = is;
         fit = record {
-          fits = λ v says.
-              let both = event_fits c.line.octets c.before p.words (stated l) v c.line.read c.after says in
+          fits = λ v accepted.
+              let both = event_fits c.line.octets c.before p.words (stated l) v c.line.read c.after accepted in
               record { ready = both.0; clients = both.1 };
           known = event.known;
         };
@@ -408,32 +409,32 @@ module _ (env : RunEnvironment) (phase found : Phase) (ws : List (List Watching)
 
   -- What is reported of the event and what comes of it, by the world that was found.
   pub carried_says : (labels : List (List ℕ)) (report : List ℕ) (new : GroupState) → HasStepped env e old new
-      → report ≡ reported_text labels (event_report old.keys (outside_of env old.keys) (world_of old) e)
+      → report ≡ report_text labels (event_report old.keys (outside_of env old.keys) (world_of old) e)
       → labels ≡ map party_label d.members → map mirror_as old.mirrors ≡ mirrors_in found
-      → acted env (state_of phase ws d) d e ≡ says report (state_of (Acting new) ws d)
+      → acted env (state_of phase ws d) d e ≡ accepted report (state_of (Acting new) ws d)
   unfolding keys w
-  carried_says labels report new step reported named stood =
+  carried_says labels report new step printed named stood =
       let taken_so : group.refusal (outside_of env keys) w (group_event keys e) ≡ None =
       subst (λ (x : World). group.refusal (outside_of env keys) x (group_event keys e) ≡ None) world_is
       (subst (λ (x : GroupKeys). group.refusal (outside_of env x) (world_of old) (group_event x e) ≡ None) keys_are
       step.taken) in
       let reported_so : report
-      ≡ reported_text (map party_label d.members) (event_report keys (outside_of env keys) w e) =
-      reported ∙ (λ i. reported_text (named i) (event_report (keys_are i) (outside_of env (keys_are i)) (world_is i)
+      ≡ report_text (map party_label d.members) (event_report keys (outside_of env keys) w e) =
+      printed ∙ (λ i. report_text (named i) (event_report (keys_are i) (outside_of env (keys_are i)) (world_is i)
       e)) in
       let after_so : world_of new ≡ after_event (outside_of env keys) w (group_event keys e) =
       step.world ∙ (λ i. after_event (outside_of env (keys_are i)) (world_is i) (group_event (keys_are i) e)) in
       let mirrors_so : map mirror_as new.mirrors ≡ mirrors_after (world_of new) e (mirrors_in phase) =
       step.mirrors ∙ ap (mirrors_after (world_of new) e) (stood ∙ ap mirrors_in is) in
       acted_says env (state_of phase ws d) d e taken_so
-      ∙ (λ i. says (sym reported_so i) (record {
+      ∙ (λ i. accepted (sym reported_so i) (record {
         declared = d;
         keys = keys;
         world = Some (sym after_so i);
         watchers = ws;
         mirrors = mirrors_after (sym after_so i) e (mirrors_in phase);
       }))
-      ∙ (λ i. says report (record {
+      ∙ (λ i. accepted report (record {
         declared = d;
         keys = sym (step.keys ∙ keys_are) i;
         world = Some (world_of new);
@@ -475,8 +476,9 @@ is_event (line.Mcatalogue label) g m k w t i h f c = c label refl
 is_event l g m k w t i h f c = tt
 
 -- A declaration has no report.
-pub declared_says : {A : Type 0} (r : Result A LineError) (v : Verdict) (report : List ℕ) (s t : State) → v ≡ says [] t
-    → report ≡ [] → OnOk r (s ≡ t) → OnOk r (v ≡ says report s)
-declared_says (Ok x) v report s t h none is = h ∙ ap (λ (text : List ℕ). says text t) (sym none)
-    ∙ ap (λ (u : State). says report u) (sym is)
+pub declared_says : {A : Type 0} (r : Result A LineError) (v : Verdict) (report : List ℕ) (s t : State)
+    → v ≡ accepted [] t
+    → report ≡ [] → OnOk r (s ≡ t) → OnOk r (v ≡ accepted report s)
+declared_says (Ok x) v report s t h none is = h ∙ ap (λ (text : List ℕ). accepted text t) (sym none)
+    ∙ ap (λ (u : State). accepted report u) (sym is)
 declared_says (Err error) v report s t h none is = tt

@@ -35,9 +35,10 @@ use Rattle.script_lines.specs.declared.error.LineError.{LineError}
 use Rattle.script_lines.specs.declared.error.LineError.TheVariants as error
 use Rattle.script_report.specs.Labels.{label_at}
 use Rattle.script_story.specs.StatedEvents.{party_number}
-use Rattle.script_story.specs.ReportedTexts.{news_in, news_text}
-use Rattle.script_story.specs.Judging.{RunEnvironment, State, found_world, line_taken, refused, says, told_at, told_by}
-use Rattle.script_story.specs.Judging.{watched, watched_by, watchers_at, watchers_of, with_watchers}
+use Rattle.script_story.specs.ReportTexts.{news_in, news_text}
+use Rattle.script_story.specs.Evaluation.{RunEnvironment, State, found_world, line_taken, refused, accepted, told_at}
+use Rattle.script_story.specs.Evaluation.{told_by}
+use Rattle.script_story.specs.Evaluation.{watched, watched_by, watchers_at, watchers_of, with_watchers}
 use Rattle.script_lines.specs.RunStates.{IsAtEvent, IsLineError, IsStopWhere, LineIsChecked}
 use Rattle.script_story.proofs.Fitting.{number_within}
 use Rattle.script_story.proofs.Declarations.{IsEvent, event_after}
@@ -60,9 +61,9 @@ of_member p s label c event known = record {
   at = at_event p s c event;
 }
 
-pub reported_checked : (p : RunState) (label : List ℕ) (number : ℕ)
+pub announced_checked : (p : RunState) (label : List ℕ) (number : ℕ)
     → LineIsChecked p (statement verb.Told (Text label ∷ Number number ∷ [])) → OfMember p label
-reported_checked p label number checked =
+announced_checked p label number checked =
     let line : Stated = statement verb.Told (Text label ∷ Number number ∷ []) in
     let event = event_after checked.before p.words line checked.after in
     of_member p line label checked event (and_left (has_label label p.words.members) _ event.known)
@@ -96,18 +97,18 @@ watch_says : (env : RunEnvironment) (s : State) (d : Declared) (values : List Va
 unfolding line_taken
 watch_says env s d values = refl
 
-reported_says : (env : RunEnvironment) (s : State) (d : Declared) (values : List Value)
+announced_says : (env : RunEnvironment) (s : State) (d : Declared) (values : List Value)
     → line_taken env s d (statement verb.Told values) ≡ told_by (found_world env s) s d values
 unfolding line_taken
-reported_says env s d values = refl
+announced_says env s d values = refl
 
 pub watch_taken : (env : RunEnvironment) (s : State) (d : Declared) (line : Stated) (values : List Value)
     → line ≡ statement verb.Watch values → line_taken env s d line ≡ watched_by (found_world env s) s d values
 watch_taken env s d line values is = ap (line_taken env s d) is ∙ watch_says env s d values
 
-pub reported_taken : (env : RunEnvironment) (s : State) (d : Declared) (line : Stated) (values : List Value)
+pub announced_taken : (env : RunEnvironment) (s : State) (d : Declared) (line : Stated) (values : List Value)
     → line ≡ statement verb.Told values → line_taken env s d line ≡ told_by (found_world env s) s d values
-reported_taken env s d line values is = ap (line_taken env s d) is ∙ reported_says env s d values
+announced_taken env s d line values is = ap (line_taken env s d) is ∙ announced_says env s d values
 
 -- A member and a pattern are the same by their names.
 pub watched_same : (w : World) (s : State) (d : Declared) (m n : ℕ) (pattern asked : Pattern) → m ≡ n
@@ -126,22 +127,22 @@ pub watched_stops : (w : World) (s : State) (d : Declared) (m : ℕ) (pattern : 
 watched_stops w s d m pattern error.NoMemory h = tt
 watched_stops w s d m pattern (error.Refused why) h =
     ap (λ (full : Bool). if full then refused refusal.Limit
-    else says (watch_text (label_at (map party_label d.members) m) (length (watchers_at s m) + 1))
+    else accepted (watch_text (label_at (map party_label d.members) m) (length (watchers_at s m) + 1))
     (with_watchers w s d m (after_add pattern (catalogue_at w m) (watchers_at s m)))) h.0 ∙ ap refused (sym h.1)
 watched_stops w s d m pattern error.Foreign h = absurd h
 
-pub reported_stops : (w : World) (s : State) (d : Declared) (m number : ℕ) (error : LineError)
+pub announced_stops : (w : World) (s : State) (d : Declared) (m number : ℕ) (error : LineError)
     → IsStopWhere (not (is_some (watch_of number (watchers_at s m)))) refusal.NoSuchWatch error
     → IsLineError (told_at w s d m number) error
-reported_stops w s d m number error.NoMemory h = tt
-reported_stops w s d m number (error.Refused why) h =
+announced_stops w s d m number error.NoMemory h = tt
+announced_stops w s d m number (error.Refused why) h =
     ap (λ (found : Bool). if found
-    then says (news_text (map party_label d.members) m number
+    then accepted (news_text (map party_label d.members) m number
     (news_in (watch_of number (watchers_at s m)) (catalogue_at w m)))
     (with_watchers w s d m (after_take number (catalogue_at w m) (watchers_at s m)))
     else refused refusal.NoSuchWatch) (not-true (is_some (watch_of number (watchers_at s m))) h.0)
     ∙ ap refused (sym h.1)
-reported_stops w s d m number error.Foreign h = absurd h
+announced_stops w s d m number error.Foreign h = absurd h
 
 -- ---- the entries of the news
 
@@ -194,13 +195,13 @@ module _ (state : GroupState) (m : ℕ) (entries : List Entry)
 
   pub all_there : (o : Option Watching) (pairs : List Pair) → pairs ≡ news_of o entries
       → All (λ pair. lists pair entries ≡ true) pairs
-  all_there o pairs reported = news_listed o entries pairs in_order reported
+  all_there o pairs printed = news_listed o entries pairs in_order printed
 
   pub copies_are : (o : Option Watching) (copies : List Entry) (pairs : List Pair) → pairs ≡ news_of o entries
       → map Some copies ≡ map (λ pair. entry_of pair entries) pairs
       → copies ≡ news_in o (catalogue_at (world_of state) m)
-  copies_are o copies pairs reported copied =
-      news_copied o entries copies pairs in_order reported copied ∙ ap (news_in o) are
+  copies_are o copies pairs printed copied =
+      news_copied o entries copies pairs in_order printed copied ∙ ap (news_in o) are
 
   pub publishers_are : (n : ℕ) (o : Option Watching) (copies : List Entry)
       → length state.members ≡ length state.keys.members.names → IsSoundGroup (world_of state)

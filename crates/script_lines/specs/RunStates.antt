@@ -23,8 +23,8 @@ use Rattle.script_lines.specs.declared.error.LineError.{LineError}
 use Rattle.script_lines.specs.declared.error.LineError.TheVariants as error
 use Rattle.script_story.specs.Mirrors.{Mirroring, mirror_as, mirror_begins}
 use Rattle.script_story.specs.StatedEvents.{stated_event}
-use Rattle.script_story.specs.Judging.{RunEnvironment, State, Verdict, no_group, refused, foreign, event_refused}
-use Rattle.script_story.specs.Judging.{mirrors_after, outside_of}
+use Rattle.script_story.specs.Evaluation.{RunEnvironment, State, Verdict, no_group, refused, foreign, event_refused}
+use Rattle.script_story.specs.Evaluation.{mirrors_after, outside_of}
 
 -- The names and keys of the group.
 abbrev pub phase_keys : Phase → GroupKeys

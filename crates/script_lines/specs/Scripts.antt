@@ -4,11 +4,11 @@ use Rattle.script_lang.specs.Limits.{script_lines, script_octets}
 use Rattle.script_report.specs.Limits.{report_octets}
 use Rattle.script_lines.specs.declared.script.Script.{Script}
 use Rattle.script_lines.specs.RunStates.{IsRunState, state_of_run, steps}
-use Rattle.script_story.specs.Story.{Reached}
+use Rattle.script_story.specs.ScriptRun.{Reached}
 
 -- What the lines so far came to.
 abbrev pub reached : Script → Reached
-reached s = record { lines = s.lines; octets = s.octets; reported = s.reported; state = state_of_run s.run_state }
+reached s = record { lines = s.lines; octets = s.octets; printed = s.printed; state = state_of_run s.run_state }
 
 -- What is kept is what they declare and did, each line made one step at most, and all is within the limits.
 pub record IsScript (s : Script) : Type 0 where
@@ -16,4 +16,4 @@ pub record IsScript (s : Script) : Type 0 where
   pub steps : steps s.run_state ≤ s.lines
   pub lines : s.lines ≤ script_lines
   pub octets : s.octets ≤ script_octets
-  pub reported : s.reported ≤ report_octets
+  pub printed : s.printed ≤ report_octets

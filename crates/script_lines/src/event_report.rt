@@ -1,10 +1,10 @@
 ghost use Rattle.std.specs.Prelude.{◌<◌, map, length, string_bytes};
 ghost use Rattle.std.specs.List.{All};
 ghost use Rattle.script_report.specs.Pieces.{Appends};
-ghost use Rattle.bench_world.specs.EventValues.{reported_value};
+ghost use Rattle.bench_world.specs.EventValues.{report_value};
 ghost use Rattle.bench_world.specs.Steps.{NamesAll};
-ghost use Rattle.script_story.specs.ReportedTexts.{listing_text, news_text, of_commands, of_group, of_insertions};
-ghost use Rattle.script_story.specs.ReportedTexts.{of_packets, of_parts, reported_if, reported_text};
+ghost use Rattle.script_story.specs.ReportTexts.{listing_text, news_text, of_commands, of_group, of_insertions};
+ghost use Rattle.script_story.specs.ReportTexts.{of_packets, of_parts, report_text_if, report_text};
 
 mod refusal_text;
 
@@ -29,8 +29,8 @@ pub(crate) fn put_event_report(
     labels: &[String],
     happened: &Happened,
 ) -> Result<(), AllocError>
-    requires all { NamesAll (length labels.now) (reported_value happened.now) }
-    ensures { Appends (reported_text (map string_bytes labels.now) (reported_value happened.now))
+    requires all { NamesAll (length labels.now) (report_value happened.now) }
+    ensures { Appends (report_text (map string_bytes labels.now) (report_value happened.now))
         report.old.items report.new.items result }
 {
     match happened {
@@ -66,8 +66,8 @@ fn put_of_group(
     labels: &[String],
     happened: &Happened,
 ) -> Result<(), AllocError>
-    requires all { NamesAll (length labels.now) (reported_value happened.now) }
-    ensures { Appends (reported_if of_group (map string_bytes labels.now) (reported_value happened.now))
+    requires all { NamesAll (length labels.now) (report_value happened.now) }
+    ensures { Appends (report_text_if of_group (map string_bytes labels.now) (report_value happened.now))
         report.old.items report.new.items result }
 {
     let alloc = *report.allocator();
@@ -103,8 +103,8 @@ fn put_of_parts(
     labels: &[String],
     happened: &Happened,
 ) -> Result<(), AllocError>
-    requires all { NamesAll (length labels.now) (reported_value happened.now) }
-    ensures { Appends (reported_if of_parts (map string_bytes labels.now) (reported_value happened.now))
+    requires all { NamesAll (length labels.now) (report_value happened.now) }
+    ensures { Appends (report_text_if of_parts (map string_bytes labels.now) (report_value happened.now))
         report.old.items report.new.items result }
 {
     match happened {
@@ -149,8 +149,8 @@ fn put_of_packets(
     labels: &[String],
     happened: &Happened,
 ) -> Result<(), AllocError>
-    requires all { NamesAll (length labels.now) (reported_value happened.now) }
-    ensures { Appends (reported_if of_packets (map string_bytes labels.now) (reported_value happened.now))
+    requires all { NamesAll (length labels.now) (report_value happened.now) }
+    ensures { Appends (report_text_if of_packets (map string_bytes labels.now) (report_value happened.now))
         report.old.items report.new.items result }
 {
     let alloc = *report.allocator();
@@ -190,8 +190,8 @@ fn put_of_insertions(
     labels: &[String],
     happened: &Happened,
 ) -> Result<(), AllocError>
-    requires all { NamesAll (length labels.now) (reported_value happened.now) }
-    ensures { Appends (reported_if of_insertions (map string_bytes labels.now) (reported_value happened.now))
+    requires all { NamesAll (length labels.now) (report_value happened.now) }
+    ensures { Appends (report_text_if of_insertions (map string_bytes labels.now) (report_value happened.now))
         report.old.items report.new.items result }
 {
     match happened {
@@ -239,8 +239,8 @@ fn put_of_commands(
     labels: &[String],
     happened: &Happened,
 ) -> Result<(), AllocError>
-    requires all { NamesAll (length labels.now) (reported_value happened.now) }
-    ensures { Appends (reported_if of_commands (map string_bytes labels.now) (reported_value happened.now))
+    requires all { NamesAll (length labels.now) (report_value happened.now) }
+    ensures { Appends (report_text_if of_commands (map string_bytes labels.now) (report_value happened.now))
         report.old.items report.new.items result }
 {
     match happened {

@@ -2,16 +2,18 @@ ghost use Rattle.std.specs.Prelude.{◌≡◌, ◌+◌, ◌<◌, ◌≤◌, ◌+
 ghost use Rattle.std.specs.Prelude.{false, None, IfOk, IfErr, IfSome, OnOk};
 ghost use Rattle.std.specs.Option.{option_map};
 ghost use Rattle.script_lang.specs.Forms.{stated};
-ghost use Rattle.group_model.specs.World.{opening_world};
+ghost use Rattle.group_model.specs.World.{initial_world};
 ghost use Rattle.group_model.specs.Refusals.{refusal};
 ghost use Rattle.repo_member.specs.Groups.{IsPlainNodeName, node_limit};
 ghost use Rattle.bench_world.specs.EventValues.{event_value, group_event, event_report};
 ghost use Rattle.bench_world.specs.Serving.{environment};
 ghost use Rattle.bench_world.specs.Worlds.{drawing, world_of};
-ghost use Rattle.script_story.specs.ReportedTexts.{reported_text};
+ghost use Rattle.script_story.specs.ReportTexts.{report_text};
 ghost use Rattle.script_story.specs.Mirrors.{mirror_as, mirror_begins};
-ghost use Rattle.script_story.specs.Judging.{acted, acted_by, env_by, group_named, judged, judged_line, line_taken};
-ghost use Rattle.script_story.specs.Judging.{mirrors_begin, opening_state, says, with_client_too, with_member_too};
+ghost use Rattle.script_story.specs.Evaluation.{acted, acted_by, env_by, group_named, evaluated, evaluated_line};
+ghost use Rattle.script_story.specs.Evaluation.{line_taken};
+ghost use Rattle.script_story.specs.Evaluation.{mirrors_begin, initial_state, accepted, with_client_too};
+ghost use Rattle.script_story.specs.Evaluation.{with_member_too};
 ghost use Rattle.script_lines.specs.RunStates.{EventFits, HasStepped, IsAtEvent, IsBeforeEvents, IsDeclared, IsLine};
 ghost use Rattle.script_lines.specs.RunStates.{IsNewNode, IsRunState, IsStillDeclaring, IsLineError, IsLineErrorOf};
 ghost use Rattle.script_lines.specs.RunStates.{LineIsChecked, StatesEvent, has_group, has_world, labels_of};
@@ -68,7 +70,7 @@ pub(crate) struct RunState {
 impl RunState {
     // Nothing was taken.
     pub(crate) fn new(alloc: Global) -> RunState
-        ensures opening { state_of_run result ≡ opening_state }
+        ensures initial { state_of_run result ≡ initial_state }
         ensures steps { steps result ≡ 0 }
         ensures is { IsRunState result }
     {
@@ -94,10 +96,10 @@ impl RunState {
         requires few { steps self.old < 100000 }
         requires empty { report.old.items ≡ [] }
         ensures taken { OnOk result
-            (judged (env_by (D.draw draws.now) (N.passes net.now)) (state_of_run self.old) line.now
-            ≡ says report.new.items (state_of_run self.new)) }
+            (evaluated (env_by (D.draw draws.now) (N.passes net.now)) (state_of_run self.old) line.now
+            ≡ accepted report.new.items (state_of_run self.new)) }
         ensures stopped { IfErr result
-            (IsLineError (judged (env_by (D.draw draws.now) (N.passes net.now)) (state_of_run self.old) line.now)) }
+            (IsLineError (evaluated (env_by (D.draw draws.now) (N.passes net.now)) (state_of_run self.old) line.now)) }
         ensures is { OnOk result (IsRunState self.new) }
         ensures steps { OnOk result (steps self.new ≤ steps self.old + 1) }
     {
@@ -120,10 +122,10 @@ impl RunState {
         requires few { steps self.old < 100000 }
         requires empty { report.old.items ≡ [] }
         ensures taken { OnOk result
-            (judged_line (env_by (D.draw draws.now) (N.passes net.now)) (state_of_run self.old)
-            (stated line) ≡ says report.new.items (state_of_run self.new)) }
+            (evaluated_line (env_by (D.draw draws.now) (N.passes net.now)) (state_of_run self.old)
+            (stated line) ≡ accepted report.new.items (state_of_run self.new)) }
         ensures stopped { IfErr result
-            (IsLineError (judged_line (env_by (D.draw draws.now) (N.passes net.now)) (state_of_run self.old)
+            (IsLineError (evaluated_line (env_by (D.draw draws.now) (N.passes net.now)) (state_of_run self.old)
             (stated line))) }
         ensures is { OnOk result (IsRunState self.new) }
         ensures steps { OnOk result (steps self.new ≤ steps self.old + 1) }
@@ -146,7 +148,7 @@ impl RunState {
         requires empty { report.old.items ≡ [] }
         ensures taken { OnOk result
             (line_taken (env_by (D.draw draws.now) (N.passes net.now)) (state_of_run self.old)
-            self.old.words (stated line) ≡ says report.new.items (state_of_run self.new)) }
+            self.old.words (stated line) ≡ accepted report.new.items (state_of_run self.new)) }
         ensures stopped { IfErr result
             (IsLineError (line_taken (env_by (D.draw draws.now) (N.passes net.now)) (state_of_run self.old)
             self.old.words (stated line))) }
@@ -261,7 +263,7 @@ impl RunState {
         requires few { steps self.old < 100000 }
         requires empty { report.old.items ≡ [] }
         ensures taken { OnOk result (acted_by (env_by (D.draw draws.now) (N.passes net.now)) (state_of_run self.old)
-            self.old.words (stated line) ≡ says report.new.items (state_of_run self.new)) }
+            self.old.words (stated line) ≡ accepted report.new.items (state_of_run self.new)) }
         ensures stopped { IfErr result
             (IsLineError (acted_by (env_by (D.draw draws.now) (N.passes net.now)) (state_of_run self.old)
             self.old.words (stated line))) }
@@ -289,7 +291,7 @@ impl RunState {
         requires few { steps self.old < 100000 }
         requires empty { report.old.items ≡ [] }
         ensures taken { OnOk result (acted (env_by (D.draw draws.now) (N.passes net.now)) (state_of_run self.old)
-            self.old.words (event_value event.now) ≡ says report.new.items (state_of_run self.new)) }
+            self.old.words (event_value event.now) ≡ accepted report.new.items (state_of_run self.new)) }
         ensures stopped { IfErr result
             (IsLineError (acted (env_by (D.draw draws.now) (N.passes net.now)) (state_of_run self.old)
             self.old.words (event_value event.now))) }
@@ -398,7 +400,7 @@ impl Phase {
         requires there { has_group self ≡ true }
         requires few { length (mirrors_in self) ≤ 4 }
         ensures world { IfOk result (λ world. world_of world ≡ unwrap_or (world_in self)
-            (opening_world (drawing (D.draw draws.now)) (length (phase_keys self).members.names))) }
+            (initial_world (drawing (D.draw draws.now)) (length (phase_keys self).members.names))) }
         ensures keys { IfOk result (λ world. world.keys ≡ phase_keys self) }
         ensures mirrors { IfOk result (λ world. map mirror_as world.mirrors ≡ mirrors_in self) }
         ensures steps { IfOk result (λ world. world.steps ≡ steps_in self) }
@@ -440,7 +442,7 @@ fn step<N: Net + Sync, D: Draws, R: Threads + Sync>(
     requires empty { report.old.items ≡ [] }
     ensures stepped { OnOk result (HasStepped (env_by (D.draw draws.now) (N.passes net.now)) (event_value event.now)
         world.old world.new) }
-    ensures report { OnOk result (report.new.items ≡ reported_text (map string_bytes labels.now)
+    ensures report { OnOk result (report.new.items ≡ report_text (map string_bytes labels.now)
         (event_report world.old.keys (environment world.old.keys (D.draw draws.now) (N.passes net.now))
         (world_of world.old)
         (event_value event.now))) }

@@ -2,8 +2,8 @@ ghost use Rattle.std.specs.Prelude.{◌≡◌, ◌+◌, map, IfErr, IfOk, IfSome
 ghost use Rattle.std.specs.Option.{option_map};
 ghost use Rattle.bench_world.specs.Worlds.{world_of};
 ghost use Rattle.script_story.specs.Mirrors.{mirror_as};
-ghost use Rattle.script_story.specs.Judging.{env_by, says};
-ghost use Rattle.script_story.specs.Story.{reached_after, judged_next, nothing_reached};
+ghost use Rattle.script_story.specs.Evaluation.{env_by, accepted};
+ghost use Rattle.script_story.specs.ScriptRun.{reached_after, evaluated_next, nothing_reached};
 ghost use Rattle.script_lines.specs.RunStates.{IsLineError};
 ghost use Rattle.script_lines.specs.Scripts.{IsScript, reached};
 
@@ -24,7 +24,7 @@ pub struct Script {
     // How many lines were carried out, how many octets they have, and how many their reports.
     lines: u32,
     octets: usize,
-    reported: usize,
+    printed: usize,
 }
 
 impl Script {
@@ -37,7 +37,7 @@ impl Script {
             run_state: RunState::new(alloc),
             lines: 0,
             octets: 0,
-            reported: 0,
+            printed: 0,
         }
     }
 
@@ -60,25 +60,25 @@ impl Script {
         draws: &D,
     ) -> Result<Script, LineError>
         requires { IsScript self }
-        ensures taken { IfOk result (λ next. judged_next (env_by (D.draw draws.now) (N.passes net.now))
-            (reached self) line.now ≡ says report.new.items (reached next).state) }
+        ensures taken { IfOk result (λ next. evaluated_next (env_by (D.draw draws.now) (N.passes net.now))
+            (reached self) line.now ≡ accepted report.new.items (reached next).state) }
         ensures reached { IfOk result (λ next. reached next
             ≡ reached_after (reached self) line.now report.new.items (reached next).state) }
         ensures is { IfOk result IsScript }
         ensures stopped { IfErr result
-            (IsLineError (judged_next (env_by (D.draw draws.now) (N.passes net.now)) (reached self) line.now)) }
+            (IsLineError (evaluated_next (env_by (D.draw draws.now) (N.passes net.now)) (reached self) line.now)) }
     {
         if self.lines >= LINES_LIMIT || line.len() > SCRIPT_LIMIT - self.octets {
             return Err(LineError::Refused(Refusal::Limit));
         }
         report.clear();
         self.run_state.take(rt, line, report, net, draws)?;
-        if report.len() > REPORT_LIMIT - self.reported {
+        if report.len() > REPORT_LIMIT - self.printed {
             return Err(LineError::Refused(Refusal::TooLarge));
         }
         self.lines += 1;
         self.octets += line.len();
-        self.reported += report.len();
+        self.printed += report.len();
         Ok(self)
     }
 

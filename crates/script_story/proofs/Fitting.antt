@@ -318,11 +318,11 @@ taken d e s h = go
 
 event_taken : (form_verb : Verb) (d e : Declared) (s : Stated) (values : List Value) (v : EventValue)
     → after_by d s form_verb values ≡ Ok e → stated_by form_verb e values ≡ Some v → IsKnown d e s
-event_taken verb.Group d e s values v after says = cc
-event_taken verb.Member d e s values v after says = cc
-event_taken verb.Client d e s values v after says = cc
-event_taken verb.Mirror d e s values v after says = cc
-event_taken form_verb d e s values v after says = taken d e s after
+event_taken verb.Group d e s values v after accepted = cc
+event_taken verb.Member d e s values v after accepted = cc
+event_taken verb.Client d e s values v after accepted = cc
+event_taken verb.Mirror d e s values v after accepted = cc
+event_taken form_verb d e s values v after accepted = taken d e s after
 
 fits_some : (d : Declared) (o : Option EventValue) (v : EventValue) → o ≡ Some v → IfSome o (Fits d) → Fits d v
 fits_some d o v is h = let P : Option EventValue → Type 0 = λ x. IfSome x (Fits d) in subst P is h
@@ -331,10 +331,10 @@ fits_some d o v is h = let P : Option EventValue → Type 0 = λ x. IfSome x (Fi
 pub event_fits : (octets : List ℕ) (d e : Declared) (s : Stated) (v : EventValue) → line_of octets ≡ Ok (Some s)
     → after_line d s ≡ Ok e → stated_event e s ≡ Some v
     → IsReady (length e.members) v × NamesClient (length e.clients) v
-event_fits octets d e s v read after says =
+event_fits octets d e s v read after accepted =
     let text : IsLineText s octets = (line_texts s octets).0 read in
-    let k = event_taken s.verb d e s s.values v after says in
-    fits_some e (stated_event e s) v says (form_fits s.verb d e s.values k.same text.ranges text.within k.known)
+    let k = event_taken s.verb d e s s.values v after accepted in
+    fits_some e (stated_event e s) v accepted (form_fits s.verb d e s.values k.same text.ranges text.within k.known)
 
 -- ---- what is declared
 

@@ -11,7 +11,7 @@ use Rattle.sorted_lists.proofs.Sets.{In, from_map}
 use Rattle.repo_catalog.specs.declared.entry.Entry.{Entry}
 use Rattle.repo_catalog.specs.Entries.{lists, publication_of}
 use Rattle.group_model.specs.Publications.{Logs, Publication, published, published_entry}
-use Rattle.group_model.specs.Member.{Member, catalogue, catalogued, is_listed, member_hides}
+use Rattle.group_model.specs.Member.{Member, catalogue, catalogued, is_listed, has_deleted}
 use Rattle.group_model.specs.World.{Environment, World, catalogue_at, logs, member}
 use Rattle.group_model.specs.Sound.{IsPublished, IsSoundGroup, IsSoundMember}
 use Rattle.group_model.specs.Catalogues.{BelongsInCatalogue, ListsRightly}
@@ -26,8 +26,8 @@ use Rattle.script_lang.proofs.Conditions.{and_left}
 use Rattle.bench_world.specs.EventValues.{EventValue}
 use Rattle.script_story.specs.StatedEvents.{party_number}
 use Rattle.script_report.specs.Labels.{label_at}
-use Rattle.script_story.specs.Judging.{RunEnvironment, State, acted_by, found_world, outside_of}
-use Rattle.script_story.specs.Story.{Reached}
+use Rattle.script_story.specs.Evaluation.{RunEnvironment, State, acted_by, found_world, outside_of}
+use Rattle.script_story.specs.ScriptRun.{Reached}
 use Rattle.script_story.specs.Headline.{HoldsAllOf, IsCatalogueLine, IsCatalogueOf, IsToBeListed, ListExactly}
 use Rattle.script_story.specs.Headline.{PrintsCatalogues, group_at, labels_at, printed_entries, publication_at}
 use Rattle.script_story.proofs.HeadlineGroups.{IsEventLine, IsSoundState, event_line}
@@ -36,9 +36,9 @@ use Rattle.script_story.proofs.LinesTaken.{IsActed, StatedTaken, acts_so, stated
 
 -- ---- a catalogue
 
-reported_entry : (ls : Logs) (m : Member) (e : Entry) → In e (catalogue ls m)
+printed_entry : (ls : Logs) (m : Member) (e : Entry) → In e (catalogue ls m)
     → e ≡ published_entry (publication_at ls (publication_of e))
-reported_entry ls m e among =
+printed_entry ls m e among =
     let q : (q : Publication) × (In q (catalogued ls m)) × (e ≡ published_entry q) =
     from_map published_entry (catalogued ls m) e among in
     let there : IsIn ls q.0 = in_published ls q.0 (from_filter (is_listed (published ls) m) (published ls) q.0 q.1).0 in
@@ -51,8 +51,8 @@ reported_entry ls m e among =
 held_by : (w : World) (m : ℕ) (pair : Pair) → IsSoundMember (logs w) m (member w m) → IsToBeListed w m pair
     → HoldsAllOf w m pair
 held_by w m pair sound t = go t.had where
-  own : pair ≡ (m, pair.1) → (member_hides (member w m) pair ≡ true) ⊎ HoldsAllOf w m pair
-  own same = subst (λ (p : Pair). (member_hides (member w m) p ≡ true) ⊎ HoldsAllOf w m p) (sym same)
+  own : pair ≡ (m, pair.1) → (has_deleted (member w m) pair ≡ true) ⊎ HoldsAllOf w m pair
+  own same = subst (λ (p : Pair). (has_deleted (member w m) p ≡ true) ⊎ HoldsAllOf w m p) (sym same)
       (sound.own_held pair.1 (subst (IsPublished (logs w)) same t.published))
 
   go : (pair.0 ≡ m) ⊎ HoldsAllOf w m pair → HoldsAllOf w m pair
@@ -85,12 +85,12 @@ list_exactly out w m sound there = record {
       }) in
       (to, from);
   in_order = lists_in_order (logs w) (member w m);
-  reported = λ k d inside. reported_entry (logs w) (member w m) (get_or (catalogue_at w m) k d)
+  printed = λ k d inside. printed_entry (logs w) (member w m) (get_or (catalogue_at w m) k d)
       (in_at (catalogue_at w m) k d inside);
 } where
   not_hidden : (pair : Pair) → lists pair (catalogue_at w m) ≡ true → ListsRightly w m pair
-      → member_hides (member w m) pair ≡ false
-  not_hidden pair listed lists_it = elim (cases_Bool (member_hides (member w m) pair)) [
+      → has_deleted (member w m) pair ≡ false
+  not_hidden pair listed lists_it = elim (cases_Bool (has_deleted (member w m) pair)) [
     | inl hidden ↦ absurd (true≢false (sym listed ∙ lists_it.not_hidden hidden))
     | inr shown ↦ shown
   ]

@@ -9,7 +9,7 @@ use Rattle.std.proofs.lemmas.Option.{slice_get-get_or}
 use Rattle.sorted_lists.specs.Range.{numbers_from}
 use Rattle.sorted_lists.proofs.Sets.{In, from_map}
 use Rattle.repo_plan.specs.declared.part.Part.{Part}
-use Rattle.repo_plan.specs.Parts.{Pair, index_packets, pair_of, part_of, parts_after}
+use Rattle.repo_plan.specs.Parts.{Pair, index_packets, pair_of, part_of, last_part}
 use Rattle.repo_object.specs.Objects.{IsObject, IsPost, IsPublisher, NamedContents, Post, offered, shape_in}
 use Rattle.repo_object.specs.Objects.Post.{Offers, Withdraws}
 use Rattle.repo_object.specs.Publication.{packet_at}
@@ -28,8 +28,8 @@ use Rattle.repo_member.specs.Groups.{GroupKeys, publisher_at}
 use Rattle.repo_member.specs.InGroup.{AreLogs, published_packet}
 use Rattle.repo_member.proofs.PublicLaws.{is_publisher, packets_are_there, packets_pass}
 use Rattle.bench_world.proofs.ClaimedPackets.{post_within, publisher_there}
-use Rattle.script_story.specs.Judging.{RunEnvironment}
-use Rattle.script_story.specs.Story.{Reached}
+use Rattle.script_story.specs.Evaluation.{RunEnvironment}
+use Rattle.script_story.specs.ScriptRun.{Reached}
 use Rattle.script_story.specs.Headline.{AreTakenFirst, group_at}
 use Rattle.script_story.specs.HeldPackets.{EntriesTellOfDumped, HoldsChecked, MembersHoldChecked, PassesItsChecks}
 use Rattle.script_story.specs.HeldPackets.{ReportsOfDumped, all_there, dumped}
@@ -145,14 +145,14 @@ module _ (g : GroupKeys) (w : World) (m : ℕ) (are : AreLogs g (logs w)) (q : P
       → option_and_then content_in (dumped g w m (part_of (pair_in q) (first + k))) ≡ Some (get_or object.contents k [])
   segment_dumped k inside =
       let t : Part = part_of (pair_in q) (first + k) in
-      let after : first + k ≤ parts_after (shape_in (Offers object)) = omega (arith, inside) in
-      let counted : first + k ≤ parts_after (shape_in q.post) =
-      subst (λ (post : Post). first + k ≤ parts_after (shape_in post)) (sym (offers_it q.post is)) after in
+      let after : first + k ≤ last_part (shape_in (Offers object)) = omega (arith, inside) in
+      let counted : first + k ≤ last_part (shape_in q.post) =
+      subst (λ (post : Post). first + k ≤ last_part (shape_in post)) (sym (offers_it q.post is)) after in
       let held : member_holds (member w m) t ≡ true =
       each_all (member_holds (member w m)) _ whole t (in_parts_in q t (record { pair = refl; counted = counted })) in
       let p : PassesItsChecks g (logs w) t = passes_so g (logs w) t are (record {
         there = there.there;
-        counted = subst (λ (post : Post). first + k ≤ parts_after (shape_in post)) (sym offers) after;
+        counted = subst (λ (post : Post). first + k ≤ last_part (shape_in post)) (sym offers) after;
       }) in
       let by : IsPublisher (publisher_at g q.publisher) = its_publisher g (logs w) are (pair_in q) there.there in
       let within : IsObject object =

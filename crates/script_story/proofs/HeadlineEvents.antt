@@ -5,7 +5,7 @@ use Rattle.std.proofs.Common.{Ok, refl, sym, ap}
 use Rattle.std.proofs.Common.{subst}
 use Rattle.std.proofs.lemmas.Bool.{true≢false}
 use Rattle.group_model.specs.Events as group
-use Rattle.group_model.specs.World.{Environment, World, opening_world}
+use Rattle.group_model.specs.World.{Environment, World, initial_world}
 use Rattle.group_model.specs.Steps.{after_event, after_events}
 use Rattle.group_model.specs.Refusals as refusals
 use Rattle.group_model.specs.Refusals.{EventsAreTaken, NamesThose}
@@ -24,14 +24,14 @@ use Rattle.bench_world.proofs.EventRuns.{named_ready}
 use Rattle.repo_watch.specs.Watching.{Watching}
 use Rattle.repo_watch.specs.Laws.{WatchCall, after_watch_call, after_watch_calls}
 use Rattle.script_story.specs.StatedEvents.{stated_event}
-use Rattle.script_story.specs.Judging.{RunEnvironment, State, acted_by, acted_if, declaring_member, found_world}
-use Rattle.script_story.specs.Judging.{opening_state}
-use Rattle.script_story.specs.Judging.{declaring_mirror, outside_of, says, taken_by, watchers_at, with_client}
-use Rattle.script_story.specs.Judging.{with_group}
-use Rattle.script_story.specs.Story.{Reached, nothing_reached}
+use Rattle.script_story.specs.Evaluation.{RunEnvironment, State, acted_by, acted_if, declaring_member, found_world}
+use Rattle.script_story.specs.Evaluation.{initial_state}
+use Rattle.script_story.specs.Evaluation.{declaring_mirror, outside_of, accepted, taken_by, watchers_at, with_client}
+use Rattle.script_story.specs.Evaluation.{with_group}
+use Rattle.script_story.specs.ScriptRun.{Reached, nothing_reached}
 use Rattle.script_story.specs.Headline.{AreTakenFirst, LinesAreTaken, group_at}
 use Rattle.script_story.proofs.Fitting.{event_fits}
-use Rattle.script_story.proofs.HeadlineTaken.{IsMirrored, IsWatched, fetched_so, heard_so, listed_so, says_state}
+use Rattle.script_story.proofs.HeadlineTaken.{IsMirrored, IsWatched, fetched_so, heard_so, listed_so, accepted_state}
 use Rattle.script_story.proofs.HeadlineTaken.{reported_so}
 use Rattle.script_story.proofs.HeadlineTaken.{watched_so}
 use Rattle.script_story.proofs.Declarations.{mirror_declares}
@@ -79,13 +79,13 @@ module _ (env : RunEnvironment) (s : State) (sound : IsSoundState env s) (line :
     (report : List ℕ) (new : State) (read_as : line_of line ≡ Ok (Some stated))
     (after : after_line s.declared stated ≡ Ok d) where
   event_steps : checking.after_event s.declared stated ≡ Ok d
-      → acted_if env s d (stated_event d stated) ≡ says report new → LineSteps env s line new
+      → acted_if env s d (stated_event d stated) ≡ accepted report new → LineSteps env s line new
   event_steps taken is =
       let acts = acted_stated env s d stated report new (stated_event d stated) refl is in
       let e : EventValue = acts.0 in
       let w : World = found_world env s in
-      let reported = event_line s.declared d stated taken in
-      let members : d.members ≡ s.declared.members = ap (λ (x : Declared). x.members) reported.is in
+      let printed = event_line s.declared d stated taken in
+      let members : d.members ≡ s.declared.members = ap (λ (x : Declared). x.members) printed.is in
       let count : length d.members ≡ length s.declared.members = ap length members in
       let fits = event_fits line s.declared d stated e read_as after acts.1 in
       let named : NamesThose w (group_event s.keys e) =
@@ -95,19 +95,19 @@ module _ (env : RunEnvironment) (s : State) (sound : IsSoundState env s) (line :
         group = ap (found_world env) acts.2.next;
         keys = ap (λ (x : State). x.keys) acts.2.next;
         members = ap (λ (x : State). x.declared.members) acts.2.next ∙ members;
-        begun = ap (λ (x : State). x.declared.events) acts.2.next ∙ ap (λ (x : Declared). x.events) reported.is;
+        begun = ap (λ (x : State). x.declared.events) acts.2.next ∙ ap (λ (x : Declared). x.events) printed.is;
         watchers = ap (λ (x : State). x.watchers) acts.2.next;
       })
 
   watch_steps : checking.after_event s.declared stated ≡ Ok d → IsWatched env s d new → LineSteps env s line new
   watch_steps taken watched =
-      let reported = event_line s.declared d stated taken in
+      let printed = event_line s.declared d stated taken in
       watches (record {
         leaves = record {
           group = ap (found_world env) watched.next;
           keys = ap (λ (x : State). x.keys) watched.next;
-          members = ap (λ (x : State). x.declared.members) watched.next ∙ ap (λ (x : Declared). x.members) reported.is;
-          begun = ap (λ (x : State). x.declared.events) watched.next ∙ ap (λ (x : Declared). x.events) reported.is;
+          members = ap (λ (x : State). x.declared.members) watched.next ∙ ap (λ (x : Declared). x.members) printed.is;
+          begun = ap (λ (x : State). x.declared.events) watched.next ∙ ap (λ (x : Declared). x.events) printed.is;
         };
         m = watched.m;
         call = watched.call;
@@ -116,59 +116,59 @@ module _ (env : RunEnvironment) (s : State) (sound : IsSoundState env s) (line :
 
   mirror_steps : checking.after_event s.declared stated ≡ Ok d → IsMirrored env s d new → LineSteps env s line new
   mirror_steps taken mirrored =
-      let reported = event_line s.declared d stated taken in
+      let printed = event_line s.declared d stated taken in
       mirrors (record {
         group = ap (found_world env) mirrored.next;
         keys = ap (λ (x : State). x.keys) mirrored.next;
-        members = ap (λ (x : State). x.declared.members) mirrored.next ∙ ap (λ (x : Declared). x.members) reported.is;
-        begun = ap (λ (x : State). x.declared.events) mirrored.next ∙ ap (λ (x : Declared). x.events) reported.is;
+        members = ap (λ (x : State). x.declared.members) mirrored.next ∙ ap (λ (x : Declared). x.members) printed.is;
+        begun = ap (λ (x : State). x.declared.events) mirrored.next ∙ ap (λ (x : Declared). x.events) printed.is;
       }) (ap (λ (x : State). x.watchers) mirrored.next)
 
-  group_declared : (values : List Value) → after_group s.declared ≡ Ok d → with_group s d values ≡ says report new
+  group_declared : (values : List Value) → after_group s.declared ≡ Ok d → with_group s d values ≡ accepted report new
       → LineSteps env s line new
   group_declared (Named name ∷ []) taken is =
       let first = declares_group s.declared d taken in
       let early : s.declared.events ≡ false = sound.uneventful first.first in
       declares early
-      (ap (λ (x : State). x.declared.events) (says_state report [] new _ is)
+      (ap (λ (x : State). x.declared.events) (accepted_state report [] new _ is)
       ∙ ap (λ (x : Declared). x.events) first.is
       ∙ early)
   group_declared values taken is = cc
 
   member_declared : (values : List Value) → after_by s.declared stated verb.Member values ≡ Ok d
-      → declaring_member s d values ≡ says report new → LineSteps env s line new
+      → declaring_member s d values ≡ accepted report new → LineSteps env s line new
   member_declared (Text label ∷ Named node ∷ Octets key ∷ []) taken is =
       let m = may s.declared d (record s.declared { members = s.declared.members ++ party label node ∷ [] })
       (party label node) (length s.declared.members) taken in
       declares m.0.before
-      (ap (λ (x : State). x.declared.events) (says_state report [] new _ is)
+      (ap (λ (x : State). x.declared.events) (accepted_state report [] new _ is)
       ∙ ap (λ (x : Declared). x.events) m.1
       ∙ m.0.before)
   member_declared values taken is = cc
 
   client_declared : (values : List Value) → after_by s.declared stated verb.Client values ≡ Ok d
-      → with_client s d values ≡ says report new → LineSteps env s line new
+      → with_client s d values ≡ accepted report new → LineSteps env s line new
   client_declared (Text label ∷ Named node ∷ Octets key ∷ []) taken is =
       let m = may s.declared d (record s.declared { clients = s.declared.clients ++ party label node ∷ [] })
       (party label node) (length s.declared.clients) taken in
       declares m.0.before
-      (ap (λ (x : State). x.declared.events) (says_state report [] new _ is)
+      (ap (λ (x : State). x.declared.events) (accepted_state report [] new _ is)
       ∙ ap (λ (x : Declared). x.events) m.1
       ∙ m.0.before)
   client_declared values taken is = cc
 
   mirror_declared : (values : List Value) → after_line s.declared (statement verb.Mirror values) ≡ Ok d
-      → declaring_mirror s d values ≡ says report new → LineSteps env s line new
+      → declaring_mirror s d values ≡ accepted report new → LineSteps env s line new
   mirror_declared (Text label ∷ publisher ∷ Named prefix ∷ []) taken is =
       let both = mirror_declares s.declared d label publisher prefix taken in
       declares both.0.early
-      (ap (λ (x : State). x.declared.events) (says_state report [] new _ is)
+      (ap (λ (x : State). x.declared.events) (accepted_state report [] new _ is)
       ∙ ap (λ (x : Declared). x.events) (sym both.1)
       ∙ both.0.early)
   mirror_declared values taken is = cc
 
   stated_steps : (form : Verb) → after_by s.declared stated form stated.values ≡ Ok d
-      → taken_by form env s d stated ≡ says report new → LineSteps env s line new
+      → taken_by form env s d stated ≡ accepted report new → LineSteps env s line new
   unfolding acted_by
   stated_steps verb.Group taken is = group_declared stated.values taken is
   stated_steps verb.Member taken is = member_declared stated.values taken is
@@ -190,7 +190,7 @@ line_steps env s line report new (stating stated d read after is) sound =
 
 -- ---- what stays so
 
-module _ (env : RunEnvironment) (P : World → Type 0) (begins : (out : Environment) (n : ℕ) → P (opening_world out n))
+module _ (env : RunEnvironment) (P : World → Type 0) (begins : (out : Environment) (n : ℕ) → P (initial_world out n))
     (stays : (out : Environment) (w : World) (e : group.Event) → IsSoundGroup w → refusals.EventIsTaken out w e → P w
     → P (after_event out w e)) where
   -- Before the first event nothing has happened.
@@ -225,7 +225,7 @@ module _ (env : RunEnvironment) (P : World → Type 0) (begins : (out : Environm
       → P (group_at env r)
   so_from_start lines reports r taken =
       so_after nothing_reached lines reports r taken (sound_beginning env)
-      (so_before opening_state (sound_beginning env) refl)
+      (so_before initial_state (sound_beginning env) refl)
 
 -- ---- runs of events
 

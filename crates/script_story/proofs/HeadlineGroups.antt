@@ -11,12 +11,12 @@ use Rattle.std.proofs.lemmas.List.{length-map, length-set, map-append}
 use Rattle.std.proofs.lemmas.Map.Keys.{IsDistinct-push}
 use Rattle.ndn_name.specs.Names.{encoding}
 use Rattle.group_model.specs.Events as group
-use Rattle.group_model.specs.World.{Environment, World, opening_world}
+use Rattle.group_model.specs.World.{Environment, World, initial_world}
 use Rattle.group_model.specs.Steps.{after_event}
 use Rattle.group_model.specs.Refusals as refusals
 use Rattle.group_model.specs.Refusals.{NamesThose}
 use Rattle.group_model.specs.Sound.{IsSoundGroup}
-use Rattle.group_model.proofs.PublicLaws.{sound_opening, sound_after}
+use Rattle.group_model.proofs.PublicLaws.{sound_initial, sound_after}
 use Rattle.group_model.proofs.Lasting.{lasts}
 use Rattle.sorted_lists.specs.Range.{numbers_from}
 use Rattle.repo_process.proofs.ProcessLemmas.{length-numbers}
@@ -39,19 +39,19 @@ use Rattle.script_lang.specs.Checking.{may_declare, party, with_totals}
 use Rattle.repo_watch.specs.Laws.{after_watch_call}
 use Rattle.script_story.specs.Mirrors.{Mirroring, mirror_begins}
 use Rattle.script_story.specs.StatedEvents.{pattern_for, publisher_number, stated_event}
-use Rattle.script_story.specs.Judging.{RunEnvironment, State, acted_by, acted_if}
-use Rattle.script_story.specs.Judging.{found_world, opening_state, outside_of, read, says}
-use Rattle.script_story.specs.Judging.{taken_by, watchers_at, with_client, with_group, with_watchers}
-use Rattle.script_story.specs.Judging.{declaring_member, declaring_mirror, mirrors_begin, mirrors_after}
-use Rattle.script_story.specs.Judging.{with_member_too}
-use Rattle.script_story.specs.Judging.{with_mirrors}
-use Rattle.script_story.specs.Story.{Reached, nothing_reached}
+use Rattle.script_story.specs.Evaluation.{RunEnvironment, State, acted_by, acted_if}
+use Rattle.script_story.specs.Evaluation.{found_world, initial_state, outside_of, read, accepted}
+use Rattle.script_story.specs.Evaluation.{taken_by, watchers_at, with_client, with_group, with_watchers}
+use Rattle.script_story.specs.Evaluation.{declaring_member, declaring_mirror, mirrors_begin, mirrors_after}
+use Rattle.script_story.specs.Evaluation.{with_member_too}
+use Rattle.script_story.specs.Evaluation.{with_mirrors}
+use Rattle.script_story.specs.ScriptRun.{Reached, nothing_reached}
 use Rattle.script_story.specs.Headline.{LinesAreTaken, AreTakenFirst}
 use Rattle.script_story.proofs.Fitting.{event_fits}
 use Rattle.script_story.proofs.LinesTaken.{LineTaken, acted_stated, nothing}
 use Rattle.script_story.proofs.LinesTaken.{stating, taken_line}
 use Rattle.script_story.proofs.HeadlineTaken.{IsMirrored, IsWatched, fetched_so, heard_so, listed_so, many_after}
-use Rattle.script_story.proofs.HeadlineTaken.{says_state, reported_so, watched_so}
+use Rattle.script_story.proofs.HeadlineTaken.{accepted_state, reported_so, watched_so}
 use Rattle.script_story.proofs.Declarations.{mirror_declares}
 
 -- ---- what holds behind lines
@@ -67,7 +67,7 @@ pub record IsSoundState (env : RunEnvironment) (s : State) : Type 0 where
   pub watched : length s.watchers ≡ length s.declared.members
   pub mirrored : length s.mirrors ≡ length s.declared.mirrors
 
-length_opening : (out : Environment) (n : ℕ) → length (opening_world out n).members ≡ n
+length_opening : (out : Environment) (n : ℕ) → length (initial_world out n).members ≡ n
 length_opening out n = length-map (numbers_from 0 n) _ ∙ length-numbers 0 n
 
 -- Before the first event the members have nothing.
@@ -76,13 +76,13 @@ record HasNoWorld (env : RunEnvironment) (s : State) : Type 0 where
   names : length s.keys.members.names ≡ length s.declared.members
 
 pub opened : (env : RunEnvironment) (s : State) → s.world ≡ None
-    → found_world env s ≡ opening_world (drawing env.draw) (length s.keys.members.names)
+    → found_world env s ≡ initial_world (drawing env.draw) (length s.keys.members.names)
 opened env s none =
-    ap (λ (o : Option World). unwrap_or o (opening_world (drawing env.draw) (length s.keys.members.names))) none
+    ap (λ (o : Option World). unwrap_or o (initial_world (drawing env.draw) (length s.keys.members.names))) none
 
 sound_before : (env : RunEnvironment) (s : State) → HasNoWorld env s → IsSoundGroup (found_world env s)
 sound_before env s h = subst IsSoundGroup (sym (opened env s h.world))
-    (sound_opening (drawing env.draw) (length s.keys.members.names))
+    (sound_initial (drawing env.draw) (length s.keys.members.names))
 
 many_before : (env : RunEnvironment) (s : State) → HasNoWorld env s
     → length (found_world env s).members ≡ length s.declared.members
@@ -93,14 +93,14 @@ none_twice : IsDistinct bytes_eq []
 unfolding IsDistinct
 none_twice = tt
 
-pub sound_beginning : (env : RunEnvironment) → IsSoundState env opening_state
+pub sound_beginning : (env : RunEnvironment) → IsSoundState env initial_state
 sound_beginning env = record {
   ungrouped = λ h. refl;
   uneventful = λ h. refl;
   begun = λ h. refl;
   names = refl;
   labels = none_twice;
-  sound = sound_opening (drawing env.draw) 0;
+  sound = sound_initial (drawing env.draw) 0;
   many = length_opening (drawing env.draw) 0;
   watched = refl;
   mirrored = refl;
@@ -171,7 +171,7 @@ labels_more d p apart h =
 
 module _ (env : RunEnvironment) (s : State) (sound : IsSoundState env s) (d : Declared) (report : List ℕ)
     (new : State) where
-  after_group_line : (values : List Value) → after_group s.declared ≡ Ok d → with_group s d values ≡ says report new
+  after_group_line : (values : List Value) → after_group s.declared ≡ Ok d → with_group s d values ≡ accepted report new
       → IsSoundState env new
   after_group_line (Named name ∷ []) after is =
       let declares = declares_group s.declared d after in
@@ -197,12 +197,12 @@ module _ (env : RunEnvironment) (s : State) (sound : IsSoundState env s) (d : De
         mirrored = sound.mirrored;
       } in
       let same : new ≡ next =
-      says_state report [] new _ is ∙ ap (λ (e : Declared). record next { declared = e }) declares.is in
+      accepted_state report [] new _ is ∙ ap (λ (e : Declared). record next { declared = e }) declares.is in
       subst (IsSoundState env) (sym same) result
   after_group_line values after is = cc
 
   after_member_line : (stated : Stated) (values : List Value) → after_by s.declared stated verb.Member values ≡ Ok d
-      → declaring_member s d values ≡ says report new → IsSoundState env new
+      → declaring_member s d values ≡ accepted report new → IsSoundState env new
   after_member_line stated (Text label ∷ Named node ∷ Octets key ∷ []) after is =
       let p : Party = party label node in
       let more : Declared = record s.declared { members = s.declared.members ++ p ∷ [] } in
@@ -231,12 +231,13 @@ module _ (env : RunEnvironment) (s : State) (sound : IsSoundState env s) (d : De
         mirrored = length-map s.mirrors
             (λ m. mirror_begins (length (with_member_too node key s.keys).members.names) m.pattern) ∙ sound.mirrored;
       } in
-      let same : new ≡ next = says_state report [] new _ is ∙ ap (λ (e : Declared). record next { declared = e }) m.1 in
+      let same : new ≡ next = accepted_state report [] new _ is
+      ∙ ap (λ (e : Declared). record next { declared = e }) m.1 in
       subst (IsSoundState env) (sym same) result
   after_member_line stated values after is = cc
 
   after_client_line : (stated : Stated) (values : List Value) → after_by s.declared stated verb.Client values ≡ Ok d
-      → with_client s d values ≡ says report new → IsSoundState env new
+      → with_client s d values ≡ accepted report new → IsSoundState env new
   after_client_line stated (Text label ∷ Named node ∷ Octets key ∷ []) after is =
       let p : Party = party label node in
       let more : Declared = record s.declared { clients = s.declared.clients ++ p ∷ [] } in
@@ -260,12 +261,13 @@ module _ (env : RunEnvironment) (s : State) (sound : IsSoundState env s) (d : De
         watched = sound.watched;
         mirrored = sound.mirrored;
       } in
-      let same : new ≡ next = says_state report [] new _ is ∙ ap (λ (e : Declared). record next { declared = e }) m.1 in
+      let same : new ≡ next = accepted_state report [] new _ is
+      ∙ ap (λ (e : Declared). record next { declared = e }) m.1 in
       subst (IsSoundState env) (sym same) result
   after_client_line stated values after is = cc
 
   after_mirror_line : (values : List Value) → after_line s.declared (statement verb.Mirror values) ≡ Ok d
-      → declaring_mirror s d values ≡ says report new → IsSoundState env new
+      → declaring_mirror s d values ≡ accepted report new → IsSoundState env new
   after_mirror_line (Text label ∷ publisher ∷ Named prefix ∷ []) after is =
       let both = mirror_declares s.declared d label publisher prefix after in
       let begun : Mirroring =
@@ -290,7 +292,7 @@ module _ (env : RunEnvironment) (s : State) (sound : IsSoundState env s) (d : De
             ∙ sym (length-append s.declared.mirrors (label ∷ []));
       } in
       let same : new ≡ next =
-      says_state report [] new _ is ∙ ap (λ (e : Declared). record next { declared = e }) (sym both.1) in
+      accepted_state report [] new _ is ∙ ap (λ (e : Declared). record next { declared = e }) (sym both.1) in
       subst (IsSoundState env) (sym same) result
   after_mirror_line values after is = cc
 
@@ -322,7 +324,7 @@ module _ (env : RunEnvironment) (s : State) (sound : IsSoundState env s) (line :
     (report : List ℕ) (new : State) (read_as : line_of line ≡ Ok (Some stated))
     (after : after_line s.declared stated ≡ Ok d) where
   after_event_line : checking.after_event s.declared stated ≡ Ok d
-      → acted_if env s d (stated_event d stated) ≡ says report new → IsSoundState env new
+      → acted_if env s d (stated_event d stated) ≡ accepted report new → IsSoundState env new
   after_event_line taken is =
       let acts = acted_stated env s d stated report new (stated_event d stated) refl is in
       let e : EventValue = acts.0 in
@@ -402,7 +404,7 @@ module _ (env : RunEnvironment) (s : State) (sound : IsSoundState env s) (line :
       subst (IsSoundState env) (sym mirrored.next) result
 
   after_stated : (form : Verb) → after_by s.declared stated form stated.values ≡ Ok d
-      → taken_by form env s d stated ≡ says report new → IsSoundState env new
+      → taken_by form env s d stated ≡ accepted report new → IsSoundState env new
   unfolding acted_by
   after_stated verb.Group k is = after_group_line env s sound d report new stated.values k is
   after_stated verb.Member k is = after_member_line env s sound d report new stated stated.values k is

@@ -26,15 +26,17 @@ use Rattle.repo_command.specs.declared.command.Command.{Command}
 use Rattle.repo_command.specs.declared.command.Command.TheVariants.{Insert, Check, Delete}
 use Rattle.group_model.specs.Publications.{Publication, has_unwithdrawn, last_of, no_post, pair_in}
 use Rattle.group_model.specs.Commands.{is_equal_command}
-use Rattle.group_model.specs.Member.{Member, catalogued_under, member_hides_all, member_hides_too}
+use Rattle.group_model.specs.Member.{Member, catalogued_under, deletes_all, deletes_publication}
 use Rattle.group_model.specs.Changes.{member_starts, publishes}
-use Rattle.group_model.specs.Events.{SyncInterest, Came, Event}
-use Rattle.group_model.specs.Events.Came.{Nothing, Its, Another}
+use Rattle.group_model.specs.Events.{SyncInterest, Response, Event}
+use Rattle.group_model.specs.Events.Response.{Nothing, Its, Another}
 use Rattle.group_model.specs.World.{Issued, Environment, World, logs, logs_of, member, no_member, sent_at}
 use Rattle.group_model.specs.World.{with_member as world_with}
-use Rattle.group_model.specs.Steps.{after_block, after_came, after_claiming, after_command, after_deliver, after_event}
-use Rattle.group_model.specs.Steps.{after_fire, after_hear, after_order, after_publish, after_settle, block_at, came_as}
-use Rattle.group_model.specs.Steps.{came_from, can_start, claim_at, drawn, reports_too_much, timer_at, to_claim}
+use Rattle.group_model.specs.Steps.{after_block, after_response, after_claiming, after_command, after_deliver}
+use Rattle.group_model.specs.Steps.{after_event}
+use Rattle.group_model.specs.Steps.{after_fire, after_hear, after_order, after_publish, after_settle, block_at}
+use Rattle.group_model.specs.Steps.{response_read}
+use Rattle.group_model.specs.Steps.{response_from, can_start, claim_at, drawn, exceeds_log, timer_at, to_claim}
 use Rattle.group_model.specs.Steps.{tried_once, with_process_at}
 use Rattle.group_model.specs.Refusals.{Refusal, EventIsTaken, has_issued, if_no_object_or_spent, if_spent, if_unissued}
 use Rattle.group_model.specs.Refusals.{if_whole, unless}
@@ -191,27 +193,27 @@ module _ (g : GroupKeys) where
   claiming w j f None h = h
   claiming w j f (Some t) h = one w (after_claiming w j f (Some t)) j _ refl refl refl (h.insertions j) h
 
-  coming : (out : Environment) (w : World) (j f : ℕ) (c : Option Part) (came : Came) → IsLimited g w
-      → IsLimited g (after_came out w j f c came)
+  coming : (out : Environment) (w : World) (j f : ℕ) (c : Option Part) (came : Response) → IsLimited g w
+      → IsLimited g (after_response out w j f c came)
   coming out w j f None came h = h
   coming out w j f (Some t) Nothing h = h
-  coming out w j f (Some t) Its h = one w (after_came out w j f (Some t) Its) j _ refl refl refl (h.insertions j) h
+  coming out w j f (Some t) Its h = one w (after_response out w j f (Some t) Its) j _ refl refl refl (h.insertions j) h
   coming out w j f (Some t) Another h =
-      one w (after_came out w j f (Some t) Another) j _ refl refl refl (h.insertions j) h
+      one w (after_response out w j f (Some t) Another) j _ refl refl refl (h.insertions j) h
 
   firing : (out : Environment) (w : World) (j : ℕ) (f : Fired) → IsLimited g w → IsLimited g (after_fire out w j f)
   firing out w j Early h = h
   firing out w j Quiet h = one w (after_fire out w j Quiet) j _ refl refl refl (h.insertions j) h
   firing out w j Send h = one w (after_fire out w j Send) j _ refl refl refl (h.insertions j) h
 
-  delivering : (out : Environment) (w : World) (j : ℕ) (reported : List ℕ) → IsLimited g w
-      → IsLimited g (after_deliver out w j reported)
-  delivering out w j reported h = one w (after_deliver out w j reported) j _ refl refl refl (h.insertions j) h
+  delivering : (out : Environment) (w : World) (j : ℕ) (printed : List ℕ) → IsLimited g w
+      → IsLimited g (after_deliver out w j printed)
+  delivering out w j printed h = one w (after_deliver out w j printed) j _ refl refl refl (h.insertions j) h
 
   hearing : (out : Environment) (w : World) (j : ℕ) (read : Option SyncInterest) → IsLimited g w
       → IsLimited g (after_hear out w j read)
   hearing out w j None h = h
-  hearing out w j (Some sync) h = go (reports_too_much w j sync) where
+  hearing out w j (Some sync) h = go (exceeds_log w j sync) where
     go : (b : Bool) → IsLimited g (cond b w (after_deliver out w j sync.vector))
     go true = h
     go false = delivering out w j sync.vector h
@@ -235,9 +237,9 @@ module _ (g : GroupKeys) where
 
   -- Deletions leave logs and insertions as they are.
   beside : (ps : List Publication) (m : Member)
-      → ((member_hides_all ps m).log ≡ m.log) × ((member_hides_all ps m).processes ≡ m.processes)
+      → ((deletes_all ps m).log ≡ m.log) × ((deletes_all ps m).processes ≡ m.processes)
   beside [] m = (refl, refl)
-  beside (p ∷ ps) m = beside ps (member_hides_too (pair_in p) m)
+  beside (p ∷ ps) m = beside ps (deletes_publication (pair_in p) m)
 
   commanding : (w : World) (j : ℕ) (command : Command) → BeginsWithin command → IsLimited g w
       → IsLimited g (after_command w j command)
@@ -345,7 +347,7 @@ module _ (g : GroupKeys) where
   limited_after out w (Event.Lose j f) within taken h =
       one w (after_event out w (Event.Lose j f)) j _ refl refl refl (h.insertions j) h
   limited_after out w (Event.Answer j f q) within taken h =
-      coming out (tried_once w) j f (claim_at w j f) (came_from out w q (claim_at w j f))
+      coming out (tried_once w) j f (claim_at w j f) (response_from out w q (claim_at w j f))
       (none w (tried_once w) refl refl h)
   limited_after out w (Event.Fetch j tries loss) within taken h =
       one w (after_event out w (Event.Fetch j tries loss)) j _ refl refl refl (h.insertions j) h
@@ -354,7 +356,7 @@ module _ (g : GroupKeys) where
   limited_after out w (Event.Hear j read) within taken h = hearing out w j read h
   limited_after out w (Event.Ask j find) within taken h = h
   limited_after out w (Event.Feed j f read) within taken h =
-      coming out w j f (claim_at w j f) (came_as w read (claim_at w j f)) h
+      coming out w j f (claim_at w j f) (response_read w read (claim_at w j f)) h
   limited_after out w (Event.Order j read) within taken h = ordering w j read taken.taken h
   limited_after out w (Event.Issue j client command) within taken h =
       commanding (record w { issued = w.issued ++ record { member = j; client = client; command = command } ∷ [] }) j

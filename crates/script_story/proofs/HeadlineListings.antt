@@ -13,18 +13,18 @@ use Rattle.svs_vector.specs.Vectors.{join}
 use Rattle.svs_vector.proofs.JoinLemmas.{join-at}
 use Rattle.group_model.specs.Events as group
 use Rattle.group_model.specs.Publications.{Logs, last_of}
-use Rattle.group_model.specs.Member.{Member, member_hides}
+use Rattle.group_model.specs.Member.{Member, has_deleted}
 use Rattle.group_model.specs.Changes.{learns}
 use Rattle.group_model.specs.World.{Environment, World, catalogue_at, logs, member, no_member, sent_at}
 use Rattle.group_model.specs.Steps.{after_deliver, after_event, drawn}
 use Rattle.group_model.specs.Sound.{IsPublished}
 use Rattle.group_model.specs.Catalogues.{BelongsInJoin, HoldsNoWithdrawal}
-use Rattle.group_model.specs.Deletions.{OnlyObjectsHidden}
+use Rattle.group_model.specs.Deletions.{OnlyObjectsDeleted}
 use Rattle.group_model.specs.Lasting.{AllLast, StaysListed}
 use Rattle.group_model.specs.Laws.{AllJoined}
-use Rattle.group_model.proofs.PublicLaws.{begins_with_objects_hidden, entries_stay, joins_by_itself, lists_those}
+use Rattle.group_model.proofs.PublicLaws.{begins_with_objects_deleted, entries_stay, joins_by_itself, lists_those}
 use Rattle.group_model.proofs.PublicLaws.{lists_what_is_held, lists_what_is_left, nothing_taken_back}
-use Rattle.group_model.proofs.PublicLaws.{stays_with_objects_hidden}
+use Rattle.group_model.proofs.PublicLaws.{stays_with_objects_deleted}
 use Rattle.group_model.proofs.Runs.{nothing_published}
 use Rattle.group_model.proofs.Settles.{logs_settled, member_settled}
 use Rattle.script_lang.specs.declared.verb.Verb.TheVariants as verb
@@ -34,13 +34,13 @@ use Rattle.script_lang.specs.Checking.{Declared, Party, party_label}
 use Rattle.bench_world.specs.EventValues.{EventValue}
 use Rattle.script_story.specs.StatedEvents.{party_number}
 use Rattle.script_report.specs.Labels.{label_at}
-use Rattle.script_story.specs.Judging.{RunEnvironment, State, acted_by, found_world, outside_of, says}
-use Rattle.script_story.specs.Story.{Reached, nothing_reached, reached_after}
+use Rattle.script_story.specs.Evaluation.{RunEnvironment, State, acted_by, found_world, outside_of, accepted}
+use Rattle.script_story.specs.ScriptRun.{Reached, nothing_reached, reached_after}
 use Rattle.script_story.specs.Headline.{AreTakenFirst, IsTakenAmid, LineIsTaken, LinesAreTaken, group_at, labels_at}
 use Rattle.script_story.specs.Listings.{IsInformedOfAll, ListedStay, SettledListWhatIsHeld}
 use Rattle.script_story.specs.Listings.{SettledListWhatIsLeft, InformedMembersJoin}
 use Rattle.script_story.proofs.HeadlineLines.{each_is_taken}
-use Rattle.script_story.proofs.HeadlineTaken.{says_report, says_state}
+use Rattle.script_story.proofs.HeadlineTaken.{accepted_report, accepted_state}
 use Rattle.script_story.proofs.HeadlineGroups.{IsSoundState, event_line, opened}
 use Rattle.script_story.proofs.HeadlineGroups.{sound_from_start, sound_lines}
 use Rattle.script_story.proofs.LinesTaken.{IsActed, acts_so, stated_taken, taken_line}
@@ -52,10 +52,10 @@ use Rattle.script_story.proofs.HeadlineSettles.{settled_group, shows_join}
 -- A settle deletes nothing and publishes nothing.
 module _ (out : Environment) (w after : World) (is : after ≡ after_event out w group.Event.Settle) (m : ℕ) (pair : Pair)
     (there : m < length w.members) where
-  hidden_same : member_hides (member after m) pair ≡ member_hides (member w m) pair
+  hidden_same : has_deleted (member after m) pair ≡ has_deleted (member w m) pair
   hidden_same =
-      ap (λ (x : World). member_hides (member x m) pair) is
-      ∙ ap (λ (x : Member). member_hides x pair) (member_settled out w m there)
+      ap (λ (x : World). has_deleted (member x m) pair) is
+      ∙ ap (λ (x : Member). has_deleted x pair) (member_settled out w m there)
 
   logs_same : logs after ≡ logs w
   logs_same = ap logs is ∙ logs_settled out w 0 w.members
@@ -99,10 +99,10 @@ settled_list_held env lines reports r taken report new l m pair there =
 
 -- Only objects are deleted.
 only_objects : (env : RunEnvironment) (lines reports : List (List ℕ)) (r : Reached) → AreTakenFirst env lines reports r
-    → OnlyObjectsHidden (group_at env r)
+    → OnlyObjectsDeleted (group_at env r)
 only_objects env lines reports r taken =
-    so_from_start env OnlyObjectsHidden begins_with_objects_hidden
-    (λ out w e sound step so. stays_with_objects_hidden out w sound e step so) lines reports r taken
+    so_from_start env OnlyObjectsDeleted begins_with_objects_deleted
+    (λ out w e sound step so. stays_with_objects_deleted out w sound e step so) lines reports r taken
 
 pub settled_list_left : SettledListWhatIsLeft
 settled_list_left env lines reports r taken report new l m pair there =
@@ -145,7 +145,7 @@ none_listed env s sound early m pair there listed =
     omega (arith, none, published.from_one, published.to_last)
 
 pub listed_stay : ListedStay
-listed_stay env before reported r first lines reports last taken m pair there listed =
+listed_stay env before printed r first lines reports last taken m pair there listed =
     elim (cases_Bool r.state.declared.events) [
       | inl begun ↦
           let run : RunsTo env r.state last.state = lines_run env r lines reports last taken sound begun in
@@ -155,7 +155,7 @@ listed_stay env before reported r first lines reports last taken m pair there li
       | inr early ↦ absurd (none_listed env r.state sound early m pair there listed)
     ] where
       sound : IsSoundState env r.state
-      sound = sound_from_start env before reported r first
+      sound = sound_from_start env before printed r first
 
 -- ---- what lines reach
 
@@ -164,9 +164,9 @@ one_after : (env : RunEnvironment) (r : Reached) (line a b : List ℕ) (new othe
     → LineIsTaken env r line a new
     → LineIsTaken env r line b other → new ≡ other
 one_after env r line a b new other is too =
-    let same : says a new.state ≡ says b other.state = sym is.verdict ∙ too.verdict in
-    let report : b ≡ a = says_report b a other.state new.state same in
-    let state : other.state ≡ new.state = says_state b a other.state new.state same in
+    let same : accepted a new.state ≡ accepted b other.state = sym is.verdict ∙ too.verdict in
+    let report : b ≡ a = accepted_report b a other.state new.state same in
+    let state : other.state ≡ new.state = accepted_state b a other.state new.state same in
     is.reached ∙ sym (λ i. reached_after r line (report i) (state i)) ∙ sym too.reached
 
 one_reached : (env : RunEnvironment) (r : Reached) (lines a b : List (List ℕ)) (last other : Reached)
@@ -206,15 +206,15 @@ number_of (p ∷ ps) (suc m) distinct inside =
 abbrev known_by : World → ℕ → ℕ → ℕ
 known_by w m p = get_or (member w m).known p 0
 
-learns_it : (out : Environment) (w : World) (m : ℕ) (reported : List ℕ) (p : ℕ) → m < length w.members
-    → get_or reported p 0 ≤ known_by (after_deliver out w m reported) m p
-learns_it out w m reported p there =
-    let x : Member = learns (drawn out w m) w.time reported (member w m) in
+learns_it : (out : Environment) (w : World) (m : ℕ) (printed : List ℕ) (p : ℕ) → m < length w.members
+    → get_or printed p 0 ≤ known_by (after_deliver out w m printed) m p
+learns_it out w m printed p there =
+    let x : Member = learns (drawn out w m) w.time printed (member w m) in
     let at : get_or (set w.members m x) m no_member ≡ x = get_or-set_same w.members m x no_member there in
-    let joined : get_or (join (member w m).known reported) p 0
-    ≡ max (get_or (member w m).known p 0) (get_or reported p 0) =
-    join-at (member w m).known reported p in
-    subst (λ (y : Member). get_or reported p 0 ≤ get_or y.known p 0) (sym at) (omega (arith, joined))
+    let joined : get_or (join (member w m).known printed) p 0
+    ≡ max (get_or (member w m).known p 0) (get_or printed p 0) =
+    join-at (member w m).known printed p in
+    subst (λ (y : Member). get_or printed p 0 ≤ get_or y.known p 0) (sym at) (omega (arith, joined))
 
 module _ (env : RunEnvironment) (lines reports : List (List ℕ)) (r : Reached)
     (taken : AreTakenFirst env lines reports r) where
@@ -233,10 +233,10 @@ module _ (env : RunEnvironment) (lines reports : List (List ℕ)) (r : Reached)
     new = amid.new
 
     same_here : here ≡ t.here
-    same_here = one_reached env nothing_reached t.before amid.reported t.reported here t.here amid.before_it t.taken
+    same_here = one_reached env nothing_reached t.before amid.printed t.printed here t.here amid.before_it t.taken
 
     sound_here : IsSoundState env here.state
-    sound_here = sound_from_start env t.before amid.reported here amid.before_it
+    sound_here = sound_from_start env t.before amid.printed here amid.before_it
 
     sound_new : IsSoundState env new.state
     sound_new = sound_lines env here (t.line ∷ []) (amid.report ∷ []) new (new, amid.it, refl) sound_here
@@ -288,12 +288,12 @@ module _ (env : RunEnvironment) (lines reports : List (List ℕ)) (r : Reached)
         let d : IsDelivered = delivered in
         let out : Environment = outside_of env here.state.keys in
         let w : World = group_at env here in
-        let reported : List ℕ = (sent_at w t.sync).vector in
-        let tells : get_or reported p 0 ≡ last_of (logs (group_at env r)) p =
+        let printed : List ℕ = (sent_at w t.sync).vector in
+        let tells : get_or printed p 0 ≡ last_of (logs (group_at env r)) p =
         ap (λ (x : Reached). get_or (sent_at (group_at env x) t.sync).vector p 0) same_here ∙ t.tells in
-        let learnt : get_or reported p 0 ≤ known_by (group_at env new) m p =
-        subst (λ (x : World). get_or reported p 0 ≤ known_by x m p) (sym d.group)
-        (learns_it out w m reported p d.there_then) in
+        let learnt : get_or printed p 0 ≤ known_by (group_at env new) m p =
+        subst (λ (x : World). get_or printed p 0 ≤ known_by x m p) (sym d.group)
+        (learns_it out w m printed p d.there_then) in
         let last : AllLast (group_at env new) (group_at env r) =
         subst (AllLast (group_at env new)) (sym d.run.group)
         (nothing_taken_back (outside_of env new.state.keys) (group_at env new) sound_new.sound d.run.events
@@ -307,7 +307,7 @@ module _ (env : RunEnvironment) (lines reports : List (List ℕ)) (r : Reached)
         omega (arith, tells, learnt, lasts)
 
 pub informed_members_join : InformedMembersJoin
-informed_members_join env lines reports r taken reported wants hides =
+informed_members_join env lines reports r taken printed wants hides =
     let sound_r : IsSoundState env r.state = sound env lines reports r taken in
     let w : World = group_at env r in
     let count : length (labels_at r) ≡ length r.state.declared.members =
@@ -324,7 +324,7 @@ informed_members_join env lines reports r taken reported wants hides =
             | inl none ↦ omega (arith, none)
             | inr some ↦
                 knows_it env lines reports r taken m p label_there
-                (reported m p label_there (λ same. other (sym same)) (omega (arith, some)))
+                (printed m p label_there (λ same. other (sym same)) (omega (arith, some)))
           ]
     ] in
     let all : AllJoined w = λ m there.

@@ -39,18 +39,18 @@ use Rattle.bench_world.proofs.EventRuns.{named_ready}
 use Rattle.repo_watch.specs.Laws.{after_watch_call}
 use Rattle.script_story.specs.Mirrors.{mirror_begins}
 use Rattle.script_story.specs.StatedEvents.{pattern_for, publisher_number, stated_by, stated_event}
-use Rattle.script_story.specs.Judging.{RunEnvironment, State, acted_by, acted_if, found_world, group_named}
-use Rattle.script_story.specs.Judging.{opening_state}
-use Rattle.script_story.specs.Judging.{outside_of, says, taken_by, with_client, with_client_too, with_group}
-use Rattle.script_story.specs.Judging.{declaring_member, declaring_mirror, mirrors_begin, mirrors_after, watchers_at}
-use Rattle.script_story.specs.Judging.{with_member_too, with_mirrors, with_watchers}
-use Rattle.script_story.specs.Story.{Reached, nothing_reached}
+use Rattle.script_story.specs.Evaluation.{RunEnvironment, State, acted_by, acted_if, found_world, group_named}
+use Rattle.script_story.specs.Evaluation.{initial_state}
+use Rattle.script_story.specs.Evaluation.{outside_of, accepted, taken_by, with_client, with_client_too, with_group}
+use Rattle.script_story.specs.Evaluation.{declaring_member, declaring_mirror, mirrors_begin, mirrors_after, watchers_at}
+use Rattle.script_story.specs.Evaluation.{with_member_too, with_mirrors, with_watchers}
+use Rattle.script_story.specs.ScriptRun.{Reached, nothing_reached}
 use Rattle.script_story.specs.Headline.{LinesAreTaken, AreTakenFirst, ReachSoundGroups}
 use Rattle.script_story.proofs.ReadNames.{read_name_valid}
 use Rattle.script_story.proofs.Fitting.{AreWritten, client_fits, event_fits, group_fits, member_fits, written}
 use Rattle.script_story.proofs.DeclaredGroups.{AreApart, AreOthers, apart_client, apart_member, differ, one_has_too}
 use Rattle.script_story.proofs.Declarations.{client_declares, member_declares, mirror_declares}
-use Rattle.script_story.proofs.HeadlineTaken.{IsMirrored, IsWatched, fetched_so, heard_so, listed_so, says_state}
+use Rattle.script_story.proofs.HeadlineTaken.{IsMirrored, IsWatched, fetched_so, heard_so, listed_so, accepted_state}
 use Rattle.script_story.proofs.HeadlineTaken.{reported_so}
 use Rattle.script_story.proofs.HeadlineTaken.{watched_so}
 use Rattle.script_story.proofs.HeadlineGroups.{IsSoundState, declares_group, event_line}
@@ -178,7 +178,7 @@ pub record IsKept (env : RunEnvironment) (s : State) : Type 0 where
   pub group : s.declared.group ≡ true → AreGroupKeys s.keys
   pub limited : s.declared.group ≡ true → IsLimited s.keys (found_world env s)
 
-kept_beginning : (env : RunEnvironment) → IsKept env opening_state
+kept_beginning : (env : RunEnvironment) → IsKept env initial_state
 kept_beginning env = record {
   ungrouped = λ h. refl;
   members = refl;
@@ -214,7 +214,7 @@ limited_before env s none is =
 module _ (env : RunEnvironment) (s : State) (sound : IsSoundState env s) (kept : IsKept env s) (octets : List ℕ)
     (d : Declared) (report : List ℕ) (new : State) where
   kept_group : (values : List Value) → line_of octets ≡ Ok (Some (statement verb.Group values))
-      → after_group s.declared ≡ Ok d → with_group s d values ≡ says report new → IsKept env new
+      → after_group s.declared ≡ Ok d → with_group s d values ≡ accepted report new → IsKept env new
   kept_group (Named name ∷ []) read after is =
       let declares = declares_group s.declared d after in
       let next : State = record {
@@ -239,12 +239,12 @@ module _ (env : RunEnvironment) (s : State) (sound : IsSoundState env s) (kept :
             (group_of (group_named name) grouped);
       } in
       let same : new ≡ next =
-      says_state report [] new _ is ∙ ap (λ (e : Declared). record next { declared = e }) declares.is in
+      accepted_state report [] new _ is ∙ ap (λ (e : Declared). record next { declared = e }) declares.is in
       subst (IsKept env) (sym same) result
   kept_group values read after is = cc
 
   kept_member : (values : List Value) → line_of octets ≡ Ok (Some (statement verb.Member values))
-      → after_line s.declared (statement verb.Member values) ≡ Ok d → declaring_member s d values ≡ says report new
+      → after_line s.declared (statement verb.Member values) ≡ Ok d → declaring_member s d values ≡ accepted report new
       → IsKept env new
   kept_member (Text label ∷ Named node ∷ Octets key ∷ []) read after is =
       let m = member_declares s.declared d label node key after in
@@ -275,12 +275,12 @@ module _ (env : RunEnvironment) (s : State) (sound : IsSoundState env s) (kept :
             (group_of (with_member_too node key s.keys) grouped);
       } in
       let same : new ≡ next =
-      says_state report [] new _ is ∙ ap (λ (e : Declared). record next { declared = e }) (sym m.1) in
+      accepted_state report [] new _ is ∙ ap (λ (e : Declared). record next { declared = e }) (sym m.1) in
       subst (IsKept env) (sym same) result
   kept_member values read after is = cc
 
   kept_client : (values : List Value) → line_of octets ≡ Ok (Some (statement verb.Client values))
-      → after_line s.declared (statement verb.Client values) ≡ Ok d → with_client s d values ≡ says report new
+      → after_line s.declared (statement verb.Client values) ≡ Ok d → with_client s d values ≡ accepted report new
       → IsKept env new
   kept_client (Text label ∷ Named node ∷ Octets key ∷ []) read after is =
       let m = client_declares s.declared d label node key after in
@@ -314,12 +314,12 @@ module _ (env : RunEnvironment) (s : State) (sound : IsSoundState env s) (kept :
             (group_of (with_client_too node key s.keys) grouped);
       } in
       let same : new ≡ next =
-      says_state report [] new _ is ∙ ap (λ (e : Declared). record next { declared = e }) (sym m.1) in
+      accepted_state report [] new _ is ∙ ap (λ (e : Declared). record next { declared = e }) (sym m.1) in
       subst (IsKept env) (sym same) result
   kept_client values read after is = cc
 
   kept_mirror : (values : List Value) → after_line s.declared (statement verb.Mirror values) ≡ Ok d
-      → declaring_mirror s d values ≡ says report new → IsKept env new
+      → declaring_mirror s d values ≡ accepted report new → IsKept env new
   kept_mirror (Text label ∷ publisher ∷ Named prefix ∷ []) after is =
       let both = mirror_declares s.declared d label publisher prefix after in
       let next : State = record {
@@ -338,7 +338,7 @@ module _ (env : RunEnvironment) (s : State) (sound : IsSoundState env s) (kept :
         limited = kept.limited;
       } in
       let same : new ≡ next =
-      says_state report [] new _ is ∙ ap (λ (e : Declared). record next { declared = e }) (sym both.1) in
+      accepted_state report [] new _ is ∙ ap (λ (e : Declared). record next { declared = e }) (sym both.1) in
       subst (IsKept env) (sym same) result
   kept_mirror values after is = cc
 
@@ -346,7 +346,7 @@ module _ (env : RunEnvironment) (s : State) (sound : IsSoundState env s) (kept :
 
   kept_event : (stated : Stated) → line_of octets ≡ Ok (Some stated) → after_line s.declared stated ≡ Ok d
       → checking.after_event s.declared stated ≡ Ok d
-      → acted_if env s d (stated_event d stated) ≡ says report new → IsKept env new
+      → acted_if env s d (stated_event d stated) ≡ accepted report new → IsKept env new
   kept_event stated read after taken is =
       let acts = acted_stated env s d stated report new (stated_event d stated) refl is in
       let e : EventValue = acts.0 in
@@ -414,7 +414,7 @@ module _ (env : RunEnvironment) (s : State) (sound : IsSoundState env s) (kept :
 
   kept_stated : (form_verb : Verb) (values : List Value) → line_of octets ≡ Ok (Some (statement form_verb values))
       → after_line s.declared (statement form_verb values) ≡ Ok d
-      → taken_by form_verb env s d (statement form_verb values) ≡ says report new → IsKept env new
+      → taken_by form_verb env s d (statement form_verb values) ≡ accepted report new → IsKept env new
   unfolding acted_by
   kept_stated verb.Group values read after is = kept_group values read after is
   kept_stated verb.Member values read after is = kept_member values read after is

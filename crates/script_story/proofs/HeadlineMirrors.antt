@@ -11,19 +11,19 @@ use Rattle.script_lang.proofs.Parties.{mirror-tells}
 use Rattle.group_model.specs.Publications.{join_of}
 use Rattle.group_model.specs.World.{World, logs}
 use Rattle.group_model.specs.Steps.{after_event}
-use Rattle.group_model.specs.Laws.{NothingHidden}
+use Rattle.group_model.specs.Laws.{NothingDeleted}
 use Rattle.repo_mirror.specs.Mirrors.{is_entry_accepted}
 use Rattle.bench_world.specs.EventValues.{EventValue, group_event}
 use Rattle.script_story.specs.Mirrors.{Mirroring, mirror_of, mirror_settles, mirrored_entries}
 use Rattle.script_story.specs.MirrorLaws.{ListsOfMirror, MirrorsAreListed, MirrorsListTheirJoin}
 use Rattle.script_story.specs.StatedEvents.{mirror_number}
-use Rattle.script_story.specs.ReportedTexts.{listing_text}
-use Rattle.script_story.specs.Judging.{RunEnvironment, State, acted_by, found_world, outside_of}
-use Rattle.script_story.specs.Story.{Reached, nothing_reached}
+use Rattle.script_story.specs.ReportTexts.{listing_text}
+use Rattle.script_story.specs.Evaluation.{RunEnvironment, State, acted_by, found_world, outside_of}
+use Rattle.script_story.specs.ScriptRun.{Reached, nothing_reached}
 use Rattle.script_story.specs.Headline.{IsSameGroup, LineIsTaken, Says, group_at, labels_at}
 use Rattle.script_story.proofs.Fitting.{mirror_placed, mirror_within}
 use Rattle.script_story.proofs.HeadlineLines.{each_is_taken}
-use Rattle.script_story.proofs.HeadlineTaken.{says_report}
+use Rattle.script_story.proofs.HeadlineTaken.{accepted_report}
 use Rattle.script_story.proofs.LinesTaken.{IsActed, StatedTaken, acts_so, stated_taken, taken_line}
 use Rattle.script_story.proofs.HeadlineGroups.{IsSoundState, event_line, sound_from_start}
 use Rattle.script_story.proofs.HeadlineSettles.{lines_tell}
@@ -50,7 +50,7 @@ mirrors_are_listed env lines reports r taken label report new l =
       there = omega (arith, there, sound.mirrored);
       named = mirror-tells label s.declared.mirrors (Some (mirror_number label s.declared.mirrors))
           (sym (mirror_placed label s.declared.mirrors known));
-      text = says_report report _ new.state _ t.is
+      text = accepted_report report _ new.state _ t.is
           ∙ (λ i. listing_text (map party_label (members i)) label
           (mirrored_entries (group_at env r) (mirror_of s.mirrors (mirror_number label (mirrors i)))));
     }
@@ -81,7 +81,7 @@ settles_mirrors env r settle workers report new stated taken =
 
 joined_at : (env : RunEnvironment) (r here : Reached) (number : ℕ) → r.state.mirrors
     ≡ map (mirror_settles (group_at env r)) here.state.mirrors → number < length r.state.mirrors
-    → IsSoundState env r.state → NothingHidden (group_at env r)
+    → IsSoundState env r.state → NothingDeleted (group_at env r)
     → mirrored_entries (group_at env r) (mirror_of r.state.mirrors number)
     ≡ filter (is_entry_accepted (mirror_of r.state.mirrors number).pattern) (join_of (logs (group_at env r)))
 joined_at env r here number settled there sound clear =

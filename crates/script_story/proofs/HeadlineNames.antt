@@ -35,25 +35,25 @@ use Rattle.script_report.specs.declared.refusal.Refusal.TheVariants as refusal
 use Rattle.script_report.specs.Labels.{label_at}
 use Rattle.script_story.specs.Mirrors.{Mirroring, is_listed_by, mirror_of, mirrored_entries}
 use Rattle.script_story.specs.StatedEvents.{mirror_number, party_number, pattern_for, publisher_number, stated_event}
-use Rattle.script_story.specs.InformedMembers.{ReportsOfMembers, ReportsTellOfMembers, mirror_fetches, mirror_hears}
+use Rattle.script_story.specs.InformedMembers.{NamesOnlyMembers, ReportsNameOnlyMembers, mirror_fetches, mirror_hears}
 use Rattle.script_story.specs.InformedMembers.{mirror_lists}
 use Rattle.script_story.specs.InformedMembers.{silent, tells, reports_news, watches}
-use Rattle.script_story.specs.ReportedTexts.{news_in, news_text}
-use Rattle.script_story.specs.Judging.{RunEnvironment, State, acted_by, acted_if, checked, found_world, judged}
-use Rattle.script_story.specs.Judging.{judged_line}
-use Rattle.script_story.specs.Judging.{line_taken, outside_of, read, says, taken_by, with_client, with_group}
-use Rattle.script_story.specs.Judging.{declaring_member, declaring_mirror, fetched_by, heard_by, listed_by, refused}
-use Rattle.script_story.specs.Judging.{told_by, watched_by, watchers_at, with_watchers}
-use Rattle.script_story.specs.Story.{nothing_reached}
+use Rattle.script_story.specs.ReportTexts.{news_in, news_text}
+use Rattle.script_story.specs.Evaluation.{RunEnvironment, State, acted_by, acted_if, checked, found_world, evaluated}
+use Rattle.script_story.specs.Evaluation.{evaluated_line}
+use Rattle.script_story.specs.Evaluation.{line_taken, outside_of, read, accepted, taken_by, with_client, with_group}
+use Rattle.script_story.specs.Evaluation.{declaring_member, declaring_mirror, fetched_by, heard_by, listed_by, refused}
+use Rattle.script_story.specs.Evaluation.{told_by, watched_by, watchers_at, with_watchers}
+use Rattle.script_story.specs.ScriptRun.{nothing_reached}
 use Rattle.script_story.proofs.Fitting.{event_fits, number_within}
 use Rattle.script_story.proofs.HeadlineLines.{judged_by}
-use Rattle.script_story.proofs.HeadlineTaken.{heard_if_so, says_report, says_state}
+use Rattle.script_story.proofs.HeadlineTaken.{heard_if_so, accepted_report, accepted_state}
 use Rattle.script_story.proofs.HeadlineGroups.{IsSoundState, event_line, sound_beginning}
 use Rattle.script_story.proofs.HeadlineGroups.{sound_lines}
 use Rattle.script_story.proofs.LinesTaken.{acted_stated, not_checked}
 
 abbrev Tells : State → List ℕ → Type 0
-Tells new report = ReportsOfMembers (map party_label new.declared.members) new.declared.mirrors report
+Tells new report = NamesOnlyMembers (map party_label new.declared.members) new.declared.mirrors report
 
 -- What holds of all entries holds of those that are news.
 pub news_among : (P : Entry → Type 0) (o : Option Watching) (entries : List Entry) → All P entries
@@ -80,20 +80,20 @@ of_members w m = all_from_in (λ (e : Entry). e.publisher < length (logs w)) (mi
 -- ---- declarations
 
 module _ (s : State) (d : Declared) (report : List ℕ) (new : State) where
-  group_silent : (values : List Value) → with_group s d values ≡ says report new → Tells new report
-  group_silent (Named name ∷ []) is = silent (says_report report [] new _ is)
+  group_silent : (values : List Value) → with_group s d values ≡ accepted report new → Tells new report
+  group_silent (Named name ∷ []) is = silent (accepted_report report [] new _ is)
   group_silent values is = cc
 
-  member_silent : (values : List Value) → declaring_member s d values ≡ says report new → Tells new report
-  member_silent (Text label ∷ Named node ∷ Octets key ∷ []) is = silent (says_report report [] new _ is)
+  member_silent : (values : List Value) → declaring_member s d values ≡ accepted report new → Tells new report
+  member_silent (Text label ∷ Named node ∷ Octets key ∷ []) is = silent (accepted_report report [] new _ is)
   member_silent values is = cc
 
-  client_silent : (values : List Value) → with_client s d values ≡ says report new → Tells new report
-  client_silent (Text label ∷ Named node ∷ Octets key ∷ []) is = silent (says_report report [] new _ is)
+  client_silent : (values : List Value) → with_client s d values ≡ accepted report new → Tells new report
+  client_silent (Text label ∷ Named node ∷ Octets key ∷ []) is = silent (accepted_report report [] new _ is)
   client_silent values is = cc
 
-  mirror_silent : (values : List Value) → declaring_mirror s d values ≡ says report new → Tells new report
-  mirror_silent (Text label ∷ publisher ∷ Named prefix ∷ []) is = silent (says_report report [] new _ is)
+  mirror_silent : (values : List Value) → declaring_mirror s d values ≡ accepted report new → Tells new report
+  mirror_silent (Text label ∷ publisher ∷ Named prefix ∷ []) is = silent (accepted_report report [] new _ is)
   mirror_silent values is = cc
 
 -- ---- events
@@ -103,7 +103,7 @@ module _ (env : RunEnvironment) (s : State) (sound : IsSoundState env s) (line :
     (report : List ℕ) (new : State) (read_as : line_of line ≡ Ok (Some stated))
     (after : after_line s.declared stated ≡ Ok d) where
   event_reports : checking.after_event s.declared stated ≡ Ok d
-      → acted_if env s d (stated_event d stated) ≡ says report new → Tells new report
+      → acted_if env s d (stated_event d stated) ≡ accepted report new → Tells new report
   event_reports taken is =
       let acts = acted_stated env s d stated report new (stated_event d stated) refl is in
       let e : EventValue = acts.0 in
@@ -127,7 +127,7 @@ module _ (env : RunEnvironment) (s : State) (sound : IsSoundState env s) (line :
   as_many : length (map party_label d.members) ≡ length d.members
   as_many = length-map d.members party_label
 
-  watch_reports : (values : List Value) → watched_by (found_world env s) s d values ≡ says report new
+  watch_reports : (values : List Value) → watched_by (found_world env s) s d values ≡ accepted report new
       → are_members s.declared (labels_in values) ≡ true → d.members ≡ s.declared.members → Tells new report
   watch_reports (Text m ∷ publisher ∷ Named prefix ∷ []) is known same =
       go (nat_le 16 (length (watchers_at s (party_number m d.members)))) is where
@@ -141,18 +141,18 @@ module _ (env : RunEnvironment) (s : State) (sound : IsSoundState env s) (line :
         there = number_within m s.declared.members d.members same (and_left (has_label m s.declared.members) _ known)
 
         go : (full : Bool) → (if full then refused refusal.Limit
-            else says (watch_text (label_at labels number) (length (watchers_at s number) + 1))
+            else accepted (watch_text (label_at labels number) (length (watchers_at s number) + 1))
             (with_watchers (found_world env s) s d number (after_add
             (pattern_for (publisher_number d publisher) prefix) (catalogue_at (found_world env s) number)
-            (watchers_at s number)))) ≡ says report new → Tells new report
+            (watchers_at s number)))) ≡ accepted report new → Tells new report
         go true k = cc
         go false k =
-            subst (λ (x : State). Tells x report) (sym (says_state report _ new _ k))
-            (watches number (length (watchers_at s number) + 1) (says_report report _ new _ k)
+            subst (λ (x : State). Tells x report) (sym (accepted_state report _ new _ k))
+            (watches number (length (watchers_at s number) + 1) (accepted_report report _ new _ k)
             (omega (arith, there, as_many)))
   watch_reports values is known same = cc
 
-  news_tell : (values : List Value) → told_by (found_world env s) s d values ≡ says report new
+  news_tell : (values : List Value) → told_by (found_world env s) s d values ≡ accepted report new
       → are_members s.declared (labels_in values) ≡ true → d.members ≡ s.declared.members → Tells new report
   news_tell (Text m ∷ Number n ∷ []) is known same =
       go (is_some (watch_of n (watchers_at s (party_number m d.members)))) is where
@@ -180,13 +180,13 @@ module _ (env : RunEnvironment) (s : State) (sound : IsSoundState env s) (line :
             (names_all (length d.members) s.keys (outside_of env s.keys) w (sound.names ∙ sym count)
             (sound.many ∙ sym count) sound.sound (EventValue.Catalogue number) there).1
 
-        go : (found : Bool) → (if found then says (news_text labels number n news)
+        go : (found : Bool) → (if found then accepted (news_text labels number n news)
             (with_watchers w s d number (after_take n (catalogue_at w number) (watchers_at s number)))
-            else refused refusal.NoSuchWatch) ≡ says report new → Tells new report
+            else refused refusal.NoSuchWatch) ≡ accepted report new → Tells new report
         go false k = cc
         go true k =
-            subst (λ (x : State). Tells x report) (sym (says_state report _ new _ k))
-            (reports_news number n news (says_report report _ new _ k) (omega (arith, there, as_many))
+            subst (λ (x : State). Tells x report) (sym (accepted_state report _ new _ k))
+            (reports_news number n news (accepted_report report _ new _ k) (omega (arith, there, as_many))
             (news_among (λ (e : Entry). e.publisher < length labels) (watch_of n (watchers_at s number))
             (catalogue_at w number) publishers))
   news_tell values is known same = cc
@@ -200,7 +200,7 @@ module _ (env : RunEnvironment) (s : State) (sound : IsSoundState env s) (line :
   mirror_known label rest known same =
       ap (is_mirror label) same ∙ and_left (is_mirror label s.declared.mirrors) _ known
 
-  heard_reports : (values : List Value) → heard_by (found_world env s) s d values ≡ says report new
+  heard_reports : (values : List Value) → heard_by (found_world env s) s d values ≡ accepted report new
       → are_mirrors s.declared (labels_in values) ≡ true → d.mirrors ≡ s.declared.mirrors → Tells new report
   heard_reports (Number k ∷ Text l ∷ []) is known same =
       let i : ℕ = mirror_number l d.mirrors in
@@ -209,14 +209,14 @@ module _ (env : RunEnvironment) (s : State) (sound : IsSoundState env s) (line :
       (mirror_hears k l heard.text (mirror_known l [] known same))
   heard_reports values is known same = cc
 
-  fetched_reports : (values : List Value) → fetched_by env (found_world env s) s d values ≡ says report new
+  fetched_reports : (values : List Value) → fetched_by env (found_world env s) s d values ≡ accepted report new
       → are_mirrors s.declared (labels_in values) ≡ true → d.mirrors ≡ s.declared.mirrors → Tells new report
   fetched_reports (Text l ∷ Number workers ∷ Number tries ∷ Number loss ∷ []) is known same =
-      subst (λ (x : State). Tells x report) (sym (says_state report _ new _ is))
-      (mirror_fetches l _ _ _ (says_report report _ new _ is) (mirror_known l [] known same))
+      subst (λ (x : State). Tells x report) (sym (accepted_state report _ new _ is))
+      (mirror_fetches l _ _ _ (accepted_report report _ new _ is) (mirror_known l [] known same))
   fetched_reports values is known same = cc
 
-  listed_reports : (values : List Value) → listed_by (found_world env s) s d values ≡ says report new
+  listed_reports : (values : List Value) → listed_by (found_world env s) s d values ≡ accepted report new
       → are_mirrors s.declared (labels_in values) ≡ true → d.members ≡ s.declared.members
       → d.mirrors ≡ s.declared.mirrors → Tells new report
   listed_reports (Text l ∷ []) is known members same =
@@ -225,8 +225,8 @@ module _ (env : RunEnvironment) (s : State) (sound : IsSoundState env s) (line :
       let count : length d.members ≡ length s.declared.members = ap (λ (ps : List Party). length ps) members in
       let many : length (logs w) ≡ length (map party_label d.members) =
       length-map w.members _ ∙ sound.many ∙ sym count ∙ sym as_many in
-      subst (λ (x : State). Tells x report) (sym (says_state report _ new _ is))
-      (mirror_lists l (mirrored_entries w m) (says_report report _ new _ is) (mirror_known l [] known same)
+      subst (λ (x : State). Tells x report) (sym (accepted_state report _ new _ is))
+      (mirror_lists l (mirrored_entries w m) (accepted_report report _ new _ is) (mirror_known l [] known same)
       (subst (λ (n : ℕ). All (λ (e : Entry). e.publisher < n) (mirrored_entries w m)) many (of_members w m)))
   listed_reports values is known members same = cc
 
@@ -237,7 +237,7 @@ module _ (env : RunEnvironment) (s : State) (sound : IsSoundState env s) (line :
       (event_line s.declared d stated taken).known
 
   stated_reports : (form : Verb) → stated.verb ≡ form → after_by s.declared stated form stated.values ≡ Ok d
-      → taken_by form env s d stated ≡ says report new → Tells new report
+      → taken_by form env s d stated ≡ accepted report new → Tells new report
   unfolding acted_by
   stated_reports verb.Group same taken is = group_silent s d report new stated.values is
   stated_reports verb.Member same taken is = member_silent s d report new stated.values is
@@ -258,24 +258,24 @@ module _ (env : RunEnvironment) (s : State) (sound : IsSoundState env s) (line :
 -- ---- lines
 
 line_reports : (env : RunEnvironment) (s : State) (line report : List ℕ) (new : State) → IsSoundState env s
-    → judged env s line ≡ says report new → Tells new report
-unfolding judged judged_line line_taken
+    → evaluated env s line ≡ accepted report new → Tells new report
+unfolding evaluated evaluated_line line_taken
 line_reports env s line report new sound h = go (line_of line) refl h where
   by_check : (stated : Stated) → line_of line ≡ Ok (Some stated) → (r : Result Declared CheckFault)
-      → after_line s.declared stated ≡ r → checked env s stated r ≡ says report new → Tells new report
+      → after_line s.declared stated ≡ r → checked env s stated r ≡ accepted report new → Tells new report
   by_check stated is (Ok d) after k =
       stated_reports env s sound line stated d report new is after stated.verb refl after k
   by_check stated is (Err fault) after k = absurd (not_checked fault report new k)
 
-  go : (r : Result (Option Stated) LineFault) → line_of line ≡ r → read env s r ≡ says report new → Tells new report
+  go : (r : Result (Option Stated) LineFault) → line_of line ≡ r → read env s r ≡ accepted report new → Tells new report
   go (Ok (Some stated)) is k = by_check stated is (after_line s.declared stated) refl k
-  go (Ok None) is k = silent (says_report report [] new s k)
+  go (Ok None) is k = silent (accepted_report report [] new s k)
   go (Err line_fault.Syntax) is k = cc
   go (Err line_fault.Limit) is k = cc
   go (Err line_fault.NoMemory) is k = cc
 
-pub reports_tell_of_members : ReportsTellOfMembers
-reports_tell_of_members env lines reports r taken line report new it =
+pub reports_name_only_members : ReportsNameOnlyMembers
+reports_name_only_members env lines reports r taken line report new it =
     line_reports env r.state line report new.state
     (sound_lines env nothing_reached lines reports r taken (sound_beginning env))
     (judged_by env r line report new.state it.verdict)

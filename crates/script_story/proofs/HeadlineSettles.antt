@@ -5,7 +5,7 @@ use Rattle.std.specs.List.{list_all}
 use Rattle.group_model.specs.World.{Environment, World}
 use Rattle.group_model.specs.Events as group
 use Rattle.group_model.specs.Steps.{after_event}
-use Rattle.group_model.specs.Laws.{AllJoined, NothingHidden}
+use Rattle.group_model.specs.Laws.{AllJoined, NothingDeleted}
 use Rattle.group_model.proofs.PublicLaws.{settle_joins}
 use Rattle.repo_member.specs.Groups.{GroupKeys}
 use Rattle.script_lang.specs.declared.line_fault.LineFault.{LineFault}
@@ -19,12 +19,12 @@ use Rattle.script_lang.specs.Checking.{Declared, after_by, party_label}
 use Rattle.script_lang.proofs.Conditions.{and_left, and_right}
 use Rattle.bench_world.specs.EventValues.{EventValue, group_event}
 use Rattle.script_story.specs.StatedEvents.{party_number, stated_by, stated_event}
-use Rattle.script_story.specs.Judging.{RunEnvironment, State, acted_by, acted_if, found_world, outside_of, says}
-use Rattle.script_story.specs.Judging.{taken_by}
-use Rattle.script_story.specs.Story.{Reached}
+use Rattle.script_story.specs.Evaluation.{RunEnvironment, State, acted_by, acted_if, found_world, outside_of, accepted}
+use Rattle.script_story.specs.Evaluation.{taken_by}
+use Rattle.script_story.specs.ScriptRun.{Reached}
 use Rattle.script_story.specs.Headline.{LinesAreTaken, IsCatalogueLine, IsCatalogueOf, IsJoined, IsSameGroup}
 use Rattle.script_story.specs.Headline.{IsSettleLine, PrintsLater, SettlesJoin}
-use Rattle.script_story.specs.Headline.{ReportChangesNothing, changes_nothing, group_at, labels_at, only_reports}
+use Rattle.script_story.specs.Headline.{ReportChangesNothing, changes_nothing, group_at, labels_at, only_prints}
 use Rattle.script_story.specs.Headline.{printed_entries}
 use Rattle.script_story.proofs.HeadlineTaken.{IsMirrored, IsWatched, fetched_so, heard_so, listed_so, reported_so}
 use Rattle.script_story.proofs.HeadlineTaken.{watched_so}
@@ -50,13 +50,13 @@ settled_group env r report new l =
     ap (found_world env) acts.next
 
 joined : (env : RunEnvironment) (r : Reached) (report : List ℕ) (new : Reached) → IsSoundState env r.state
-    → IsSettleLine env r report new → NothingHidden (group_at env new) → AllJoined (group_at env new)
-joined env r report new sound l nothing_hidden =
+    → IsSettleLine env r report new → NothingDeleted (group_at env new) → AllJoined (group_at env new)
+joined env r report new sound l nothing_deleted =
     let out : Environment = outside_of env r.state.keys in
     let settled : group_at env new ≡ after_event out (group_at env r) group.Event.Settle =
     settled_group env r report new l in
     subst AllJoined (sym settled)
-    (settle_joins out (group_at env r) sound.sound (subst NothingHidden settled nothing_hidden))
+    (settle_joins out (group_at env r) sound.sound (subst NothingDeleted settled nothing_deleted))
 
 -- ---- lines that only tell
 
@@ -70,7 +70,7 @@ leaves out w g stated_value e is same =
 
 tells : (out : Environment) (w : World) (g : GroupKeys) (form : Verb) (d : Declared) (values : List Value)
     (e : EventValue)
-    → only_reports form ≡ true → stated_by form d values ≡ Some e → after_event out w (group_event g e) ≡ w
+    → only_prints form ≡ true → stated_by form d values ≡ Some e → after_event out w (group_event g e) ≡ w
 tells out w g verb.Sync d (Number k ∷ []) e only is = leaves out w g (EventValue.Sync k) e is refl
 tells out w g verb.Vector d (Text m ∷ []) e only is =
     leaves out w g (EventValue.Vector (party_number m d.members)) e is refl
@@ -85,8 +85,8 @@ tells out w g verb.Traffic d [] e only is = leaves out w g EventValue.Traffic e 
 tells out w g form d values e only is = cc
 
 event_reports : (env : RunEnvironment) (r : Reached) (stated : Stated) (d : Declared) (report : List ℕ) (new : Reached)
-    → only_reports stated.verb ≡ true → checking.after_event r.state.declared stated ≡ Ok d
-    → acted_if env r.state d (stated_event d stated) ≡ says report new.state → IsSameGroup env r new
+    → only_prints stated.verb ≡ true → checking.after_event r.state.declared stated ≡ Ok d
+    → acted_if env r.state d (stated_event d stated) ≡ accepted report new.state → IsSameGroup env r new
 event_reports env r stated d report new only after is =
     let s : State = r.state in
     let acts = acted_stated env s d stated report new.state (stated_event d stated) refl is in
@@ -118,9 +118,9 @@ mirror_reports env r stated d new after mirrored = record {
 }
 
 form_reports : (env : RunEnvironment) (r : Reached) (stated : Stated) (d : Declared) (report : List ℕ) (new : Reached)
-    → only_reports stated.verb ≡ true → (form : Verb) → only_reports form ≡ true
+    → only_prints stated.verb ≡ true → (form : Verb) → only_prints form ≡ true
     → after_by r.state.declared stated form stated.values ≡ Ok d
-    → taken_by form env r.state d stated ≡ says report new.state → IsSameGroup env r new
+    → taken_by form env r.state d stated ≡ accepted report new.state → IsSameGroup env r new
 unfolding acted_by
 form_reports env r stated d report new only verb.Group tell after is = cc
 form_reports env r stated d report new only verb.Member tell after is = cc
@@ -140,7 +140,7 @@ form_reports env r stated d report new only form tell after is =
     event_reports env r stated d report new only after is
 
 stated_reports : (r : Result (Option Stated) LineFault) (stated : Stated) → r ≡ Ok (Some stated)
-    → changes_nothing r ≡ true → only_reports stated.verb ≡ true
+    → changes_nothing r ≡ true → only_prints stated.verb ≡ true
 stated_reports r stated is tell = subst (λ x. changes_nothing x ≡ true) is tell
 
 line_reports : (env : RunEnvironment) (r : Reached) (line report : List ℕ) (new : Reached)
@@ -150,7 +150,7 @@ line_reports env r line report new (nothing is same) tell = record {
   labels = ap (λ (x : State). map party_label x.declared.members) same;
 }
 line_reports env r line report new (stating stated d is after taken) tell =
-    let only : only_reports stated.verb ≡ true = stated_reports (line_of line) stated is tell in
+    let only : only_prints stated.verb ≡ true = stated_reports (line_of line) stated is tell in
     form_reports env r stated d report new only stated.verb only after taken
 
 pub report_changes_nothing : ReportChangesNothing
@@ -181,13 +181,13 @@ same_printed : (env : RunEnvironment) (r later : Reached) (label report : List �
 same_printed env r later label report same c =
     subst (λ (x : World × List (List ℕ)). IsCatalogueOf x.0 x.1 label report) (λ i. (same.group i, same.labels i)) c
 
-later_catalogue : (env : RunEnvironment) (r : Reached) → IsSoundState env r.state → (between reported : List (List ℕ))
-    (later : Reached) → LinesAreTaken env r between reported later
+later_catalogue : (env : RunEnvironment) (r : Reached) → IsSoundState env r.state → (between so_far : List (List ℕ))
+    (later : Reached) → LinesAreTaken env r between so_far later
     → list_all (λ line. changes_nothing (line_of line)) between ≡ true → (label report : List ℕ) (new : Reached)
     → IsCatalogueLine env later label report new → IsCatalogueOf (group_at env r) (labels_at r) label report
-later_catalogue env r sound between reported later go_on tell label report new c =
-    same_printed env r later label report (lines_tell env r between reported later go_on tell)
-    (catalogue_line env later (sound_lines env r between reported later go_on sound) label report new c)
+later_catalogue env r sound between so_far later go_on tell label report new c =
+    same_printed env r later label report (lines_tell env r between so_far later go_on tell)
+    (catalogue_line env later (sound_lines env r between so_far later go_on sound) label report new c)
 
 pub prints_later : PrintsLater
 prints_later env lines reports r taken = later_catalogue env r (sound_from_start env lines reports r taken)
@@ -197,15 +197,15 @@ pub shows_join : (env : RunEnvironment) (r : Reached) → IsSoundState env r.sta
     → IsJoined env r
 shows_join env r sound all = record {
   all = all;
-  shown = λ between reported later go_on tell label text last c.
+  shown = λ between so_far later go_on tell label text last c.
       let printed : IsCatalogueOf (group_at env r) (labels_at r) label text =
-      later_catalogue env r sound between reported later go_on tell label text last c in
+      later_catalogue env r sound between so_far later go_on tell label text last c in
       printed.text ∙ ap (printed_entries (labels_at r) label) (all printed.number printed.there);
 }
 
 pub settles_join : SettlesJoin
-settles_join env lines reports r taken report new l nothing_hidden =
+settles_join env lines reports r taken report new l nothing_deleted =
     let sound : IsSoundState env r.state = sound_from_start env lines reports r taken in
     let after : IsSoundState env new.state =
     sound_lines env r (l.line ∷ []) (report ∷ []) new (new, l.taken, refl) sound in
-    shows_join env new after (joined env r report new sound l nothing_hidden)
+    shows_join env new after (joined env r report new sound l nothing_deleted)

@@ -6,7 +6,7 @@ use Rattle.std.specs.List.{concat, list_all}
 use Rattle.std.proofs.lemmas.Bool.{and_from}
 use Rattle.std.proofs.lemmas.List.{append-nil}
 use Rattle.std.proofs.lemmas.List.Folds.{concat-append}
-use Rattle.group_model.specs.Laws.{AllJoined, NothingHidden}
+use Rattle.group_model.specs.Laws.{AllJoined, NothingDeleted}
 use Rattle.script_lang.specs.declared.line_fault.LineFault.{LineFault}
 use Rattle.script_lang.specs.declared.verb.Verb.{Verb}
 use Rattle.script_lang.specs.declared.verb.Verb.TheVariants as verb
@@ -17,14 +17,14 @@ use Rattle.script_lang.proofs.Conditions.{and_left, and_right}
 use Rattle.script_story.specs.declared.ending.Ending.{Ending}
 use Rattle.script_story.specs.declared.ending.Ending.TheVariants.{Done}
 use Rattle.repo_io.specs.Lines.{lines}
-use Rattle.script_story.specs.Judging.{RunEnvironment, Verdict, says, foreign, unjudged}
-use Rattle.script_story.specs.Judging as verdict
-use Rattle.script_story.specs.Story.{Reached, Story, judged_next, nothing_reached, story_of}
+use Rattle.script_story.specs.Evaluation.{RunEnvironment, Verdict, accepted, foreign, not_evaluated}
+use Rattle.script_story.specs.Evaluation as verdict
+use Rattle.script_story.specs.ScriptRun.{Reached, ScriptRun, evaluated_next, nothing_reached, run_of}
 use Rattle.script_story.specs.Headline.{LinesAreTaken, AreTakenFirst, EndsBy, EndsWith, IsCatalogueLine, IsJoined}
-use Rattle.script_story.specs.Headline.{IsSameGroup, IsToldBy, Says, changes_nothing, deletes, deletes_nothing}
-use Rattle.script_story.specs.Headline.{group_at, only_reports}
+use Rattle.script_story.specs.Headline.{IsSameGroup, IsReportOf, Says, changes_nothing, deletes, deletes_nothing}
+use Rattle.script_story.specs.Headline.{group_at, only_prints}
 use Rattle.script_story.specs.ShownCatalogues.{CatalogueLinesShow, SettleLinesShow, ShowsCatalogue}
-use Rattle.script_story.proofs.HeadlineLines.{each_is_taken, reported_by}
+use Rattle.script_story.proofs.HeadlineLines.{each_is_taken, held_shapes}
 use Rattle.script_story.proofs.HeadlineCatalogues.{prints_catalogues}
 use Rattle.script_story.proofs.HeadlineDeletions.{hides_by_deletion_alone}
 use Rattle.script_story.proofs.HeadlineSettles.{lines_tell, settles_join}
@@ -41,55 +41,55 @@ record AllTaken (env : RunEnvironment) (script : List (List ℕ)) (text : List �
 
 not_done : (number : ℕ) (v : Verdict) (text : List ℕ) (ending : Ending) → EndsBy number v text ending → ending ≡ Done
     → ⊥
-not_done number (says report next) text ending ends done = ends
+not_done number (accepted report next) text ending ends done = ends
 not_done number (verdict.refused why) text ending ends done = let one = sym ends.1 ∙ done in cc
 not_done number foreign text ending ends done = let one = sym ends.1 ∙ done in cc
-not_done number unjudged text ending ends done = ends
+not_done number not_evaluated text ending ends done = ends
 
-done_taken : (env : RunEnvironment) (script : List (List ℕ)) (s : Story) → IsToldBy env nothing_reached script s
+done_taken : (env : RunEnvironment) (script : List (List ℕ)) (s : ScriptRun) → IsReportOf env nothing_reached script s
     → s.ending ≡ Done → AllTaken env script s.text
-done_taken env script s reported done = go reported.others reported.lines reported.ends where
-  go : (others : List (List ℕ)) → script ≡ reported.first ++ others
-      → EndsWith env reported.last others reported.end s.ending → AllTaken env script s.text
+done_taken env script s printed done = go printed.others printed.lines printed.ends where
+  go : (others : List (List ℕ)) → script ≡ printed.first ++ others
+      → EndsWith env printed.last others printed.end s.ending → AllTaken env script s.text
   go [] cut ends =
-      let whole : script ≡ reported.first = cut ∙ append-nil reported.first in
+      let whole : script ≡ printed.first = cut ∙ append-nil printed.first in
       record {
-        reports = reported.reports;
-        last = reported.last;
-        taken = subst (λ (ls : List (List ℕ)). AreTakenFirst env ls reported.reports reported.last) (sym whole)
-            reported.taken;
-        text_is = reported.text ∙ ap (λ (end : List ℕ). concat reported.reports ++ end) ends.0
-            ∙ append-nil (concat reported.reports);
+        reports = printed.reports;
+        last = printed.last;
+        taken = subst (λ (ls : List (List ℕ)). AreTakenFirst env ls printed.reports printed.last) (sym whole)
+            printed.taken;
+        text_is = printed.text ∙ ap (λ (end : List ℕ). concat printed.reports ++ end) ends.0
+            ∙ append-nil (concat printed.reports);
       }
   go (line ∷ others) cut ends =
-      absurd (not_done (reported.last.lines + 1) (judged_next env reported.last line) reported.end s.ending ends done)
+      absurd (not_done (printed.last.lines + 1) (evaluated_next env printed.last line) printed.end s.ending ends done)
 
 pub catalogue_lines_show : CatalogueLinesShow
 catalogue_lines_show env input before line others label done cut stated =
-    let s : Story = story_of env input in
-    let all = done_taken env (lines input) s (reported_by env nothing_reached (lines input)) done in
+    let s : ScriptRun = run_of env input in
+    let all = done_taken env (lines input) s (held_shapes env nothing_reached (lines input)) done in
     let taken : LinesAreTaken env nothing_reached (before ++ line ∷ others) all.reports all.last =
     subst (λ (ls : List (List ℕ)). LinesAreTaken env nothing_reached ls all.reports all.last) cut all.taken in
     let amid = each_is_taken env nothing_reached before line others all.reports all.last taken in
     let it : IsCatalogueLine env amid.here label amid.report amid.new =
     record { line = line; stated = stated; taken = amid.it } in
-    let shown = prints_catalogues env before amid.reported amid.here amid.before_it label amid.report amid.new it in
+    let shown = prints_catalogues env before amid.printed amid.here amid.before_it label amid.report amid.new it in
     record {
       here = amid.here;
-      reports = amid.reported;
+      reports = amid.printed;
       taken = amid.before_it;
       report = amid.report;
       rest = concat amid.later;
       text_is = all.text_is ∙ ap (λ (rs : List (List ℕ)). concat rs) amid.reports_are
-          ∙ concat-append amid.reported (amid.report ∷ amid.later);
+          ∙ concat-append amid.printed (amid.report ∷ amid.later);
       shown = shown;
-      checked = members_hold_checked env before amid.reported amid.here amid.before_it shown.number shown.there;
+      checked = members_hold_checked env before amid.printed amid.here amid.before_it shown.number shown.there;
     }
 
 -- ---- a settle
 
 -- What changes nothing deletes nothing.
-reports_or_deletes : (form : Verb) → only_reports form ≡ true → not (deletes form) ≡ true
+reports_or_deletes : (form : Verb) → only_prints form ≡ true → not (deletes form) ≡ true
 reports_or_deletes verb.Delete only = cc
 reports_or_deletes verb.Order only = cc
 reports_or_deletes form only = refl
@@ -132,11 +132,11 @@ joined_after env before settle workers between reports r taken kept settles betw
     all_both before (settle ∷ between) kept
     (and_from (deletes_nothing (line_of settle)) _ (settle_spares settle workers settles)
     (all_spare between between_reports)) in
-    let hidden : NothingHidden (group_at env amid.new) =
-    subst NothingHidden tells.group
+    let hidden : NothingDeleted (group_at env amid.new) =
+    subst NothingDeleted tells.group
     (hides_by_deletion_alone env (before ++ settle ∷ between) reports r taken no_deletion) in
     let joined : IsJoined env amid.new =
-    settles_join env before amid.reported amid.here amid.before_it amid.report amid.new
+    settles_join env before amid.printed amid.here amid.before_it amid.report amid.new
     (record { line = settle; workers = workers; stated = settles; taken = amid.it }) hidden in
     subst AllJoined (sym tells.group) joined.all
 
@@ -146,7 +146,7 @@ settle_lines_show env input before settle workers between line others label done
     let first : List (List ℕ) = before ++ settle ∷ between in
     let same : first ++ line ∷ others ≡ before ++ settle ∷ (between ++ line ∷ others) =
     append_assoc before (settle ∷ between) (line ∷ others) in
-    let c : ShowsCatalogue env first label (story_of env input).text =
+    let c : ShowsCatalogue env first label (run_of env input).text =
     catalogue_lines_show env input first line others label done (cut ∙ sym same) stated in
     let all : AllJoined (group_at env c.here) =
     joined_after env before settle workers between c.reports c.here c.taken kept settles between_reports in

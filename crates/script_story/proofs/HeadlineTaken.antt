@@ -16,17 +16,19 @@ use Rattle.script_report.specs.declared.refusal.Refusal.TheVariants as refusal
 use Rattle.script_report.specs.Labels.{label_at}
 use Rattle.script_story.specs.Mirrors.{Mirroring, mirror_fetches, mirror_hears, mirror_of, mirror_settles}
 use Rattle.script_story.specs.StatedEvents.{mirror_number, party_number, pattern_for, publisher_number}
-use Rattle.script_story.specs.ReportedTexts.{news_in, news_text}
-use Rattle.script_story.specs.Judging.{RunEnvironment, State, found_world, refused, says, told_at, told_by, watched_by}
-use Rattle.script_story.specs.Judging.{watchers_at}
-use Rattle.script_story.specs.Judging.{event_refused, fetched_by, heard_by, heard_if, listed_by, mirrors_after}
-use Rattle.script_story.specs.Judging.{with_mirror, with_mirrors, with_watchers}
+use Rattle.script_story.specs.ReportTexts.{news_in, news_text}
+use Rattle.script_story.specs.Evaluation.{RunEnvironment, State, found_world, refused, accepted, told_at, told_by}
+use Rattle.script_story.specs.Evaluation.{watched_by}
+use Rattle.script_story.specs.Evaluation.{watchers_at}
+use Rattle.script_story.specs.Evaluation.{event_refused, fetched_by, heard_by, heard_if, listed_by, mirrors_after}
+use Rattle.script_story.specs.Evaluation.{with_mirror, with_mirrors, with_watchers}
 
-pub says_report : (report reported : List ℕ) (new s : State) → says reported s ≡ says report new → report ≡ reported
-says_report report reported new s h = cc
+pub accepted_report : (report printed : List ℕ) (new s : State) → accepted printed s ≡ accepted report new
+    → report ≡ printed
+accepted_report report printed new s h = cc
 
-pub says_state : (report reported : List ℕ) (new s : State) → says reported s ≡ says report new → new ≡ s
-says_state report reported new s h = cc
+pub accepted_state : (report printed : List ℕ) (new s : State) → accepted printed s ≡ accepted report new → new ≡ s
+accepted_state report printed new s h = cc
 
 -- A line of watchers was taken: the group is as it was found, and this was asked of the watchers of one member.
 pub record IsWatched (env : RunEnvironment) (s : State) (d : Declared) (new : State) : Type 0 where
@@ -35,7 +37,7 @@ pub record IsWatched (env : RunEnvironment) (s : State) (d : Declared) (new : St
   pub next : new ≡ with_watchers (found_world env s) s d m (after_watch_call call (watchers_at s m))
 
 pub watched_so : (env : RunEnvironment) (s : State) (d : Declared) (values : List Value) (report : List ℕ) (new : State)
-    → watched_by (found_world env s) s d values ≡ says report new → IsWatched env s d new
+    → watched_by (found_world env s) s d values ≡ accepted report new → IsWatched env s d new
 watched_so env s d (Text label ∷ publisher ∷ Named prefix ∷ []) report new is =
     go (nat_le 16 (length (watchers_at s m))) is where
       m : ℕ
@@ -45,15 +47,15 @@ watched_so env s d (Text label ∷ publisher ∷ Named prefix ∷ []) report new
       call = Add (pattern_for (publisher_number d publisher) prefix) (catalogue_at (found_world env s) m)
 
       go : (full : Bool) → (if full then refused refusal.Limit
-          else says (watch_text (label_at (map party_label d.members) m) (length (watchers_at s m) + 1))
-          (with_watchers (found_world env s) s d m (after_watch_call call (watchers_at s m)))) ≡ says report new
+          else accepted (watch_text (label_at (map party_label d.members) m) (length (watchers_at s m) + 1))
+          (with_watchers (found_world env s) s d m (after_watch_call call (watchers_at s m)))) ≡ accepted report new
           → IsWatched env s d new
       go true k = cc
-      go false k = record { m = m; call = call; next = says_state report _ new _ k }
+      go false k = record { m = m; call = call; next = accepted_state report _ new _ k }
 watched_so env s d values report new is = cc
 
 -- The watcher of a number was reported its news.
-pub record IsReported (env : RunEnvironment) (s : State) (d : Declared) (m number : ℕ) (report : List ℕ)
+pub record IsAnnounced (env : RunEnvironment) (s : State) (d : Declared) (m number : ℕ) (report : List ℕ)
     (new : State) : Type 0 where
   pub found : is_some (watch_of number (watchers_at s m)) ≡ true
   pub text : report ≡ news_text (map party_label d.members) m number
@@ -61,27 +63,28 @@ pub record IsReported (env : RunEnvironment) (s : State) (d : Declared) (m numbe
   pub next : new ≡ with_watchers (found_world env s) s d m
       (after_take number (catalogue_at (found_world env s) m) (watchers_at s m))
 
-pub reported_at_so : (env : RunEnvironment) (s : State) (d : Declared) (m number : ℕ) (report : List ℕ) (new : State)
-    → told_at (found_world env s) s d m number ≡ says report new → IsReported env s d m number report new
-reported_at_so env s d m number report new is = go (is_some (watch_of number (watchers_at s m))) refl is where
+pub printed_at_so : (env : RunEnvironment) (s : State) (d : Declared) (m number : ℕ) (report : List ℕ) (new : State)
+    → told_at (found_world env s) s d m number ≡ accepted report new → IsAnnounced env s d m number report new
+printed_at_so env s d m number report new is = go (is_some (watch_of number (watchers_at s m))) refl is where
   news : List Entry
   news = news_in (watch_of number (watchers_at s m)) (catalogue_at (found_world env s) m)
 
   go : (found : Bool) → is_some (watch_of number (watchers_at s m)) ≡ found
-      → (if found then says (news_text (map party_label d.members) m number news) (with_watchers (found_world env s) s
+      → (if found then accepted (news_text (map party_label d.members) m number news)
+      (with_watchers (found_world env s) s
       d m (after_take number (catalogue_at (found_world env s) m) (watchers_at s m)))
-      else refused refusal.NoSuchWatch) ≡ says report new → IsReported env s d m number report new
+      else refused refusal.NoSuchWatch) ≡ accepted report new → IsAnnounced env s d m number report new
   go false there k = cc
   go true there k =
-      record { found = there; text = says_report report _ new _ k; next = says_state report _ new _ k }
+      record { found = there; text = accepted_report report _ new _ k; next = accepted_state report _ new _ k }
 
 pub reported_so : (env : RunEnvironment) (s : State) (d : Declared) (values : List Value) (report : List ℕ)
     (new : State)
-    → told_by (found_world env s) s d values ≡ says report new → IsWatched env s d new
+    → told_by (found_world env s) s d values ≡ accepted report new → IsWatched env s d new
 reported_so env s d (Text label ∷ Number number ∷ []) report new is =
     let m : ℕ = party_number label d.members in
-    let reported = reported_at_so env s d m number report new is in
-    record { m = m; call = Take number (catalogue_at (found_world env s) m); next = reported.next }
+    let printed = printed_at_so env s d m number report new is in
+    record { m = m; call = Take number (catalogue_at (found_world env s) m); next = printed.next }
 reported_so env s d values report new is = cc
 
 -- ---- mirrors
@@ -97,7 +100,7 @@ one_mirrored : (env : RunEnvironment) (s : State) (d : Declared) (i : ℕ) (m : 
 one_mirrored env s d i m new next =
     record { mirrors = set s.mirrors i m; many = length-set s.mirrors i m; next = next }
 
-not_heard : (why : group.Refusal) (report : List ℕ) (new : State) → event_refused why ≡ says report new → ⊥
+not_heard : (why : group.Refusal) (report : List ℕ) (new : State) → event_refused why ≡ accepted report new → ⊥
 not_heard group.Refusal.NoSuchPacket report new h = cc
 not_heard group.Refusal.FetcherBusy report new h = cc
 not_heard group.Refusal.FetcherIdle report new h = cc
@@ -112,35 +115,36 @@ pub record HasHeard (env : RunEnvironment) (s : State) (d : Declared) (k : ℕ) 
   pub mirrored : IsMirrored env s d new
 
 pub heard_if_so : (env : RunEnvironment) (s : State) (d : Declared) (o : Option group.Refusal) (k i : ℕ)
-    (label report : List ℕ) (new : State) → heard_if o (found_world env s) s d k i label ≡ says report new
+    (label report : List ℕ) (new : State) → heard_if o (found_world env s) s d k i label ≡ accepted report new
     → HasHeard env s d k label report new
 heard_if_so env s d (Some why) k i label report new h = absurd (not_heard why report new h)
 heard_if_so env s d None k i label report new h = record {
-  text = says_report report _ new _ h;
+  text = accepted_report report _ new _ h;
   mirrored = one_mirrored env s d i
-      (mirror_hears (sent_at (found_world env s) k).vector (mirror_of s.mirrors i)) new (says_state report _ new _ h);
+      (mirror_hears (sent_at (found_world env s) k).vector (mirror_of s.mirrors i)) new
+      (accepted_state report _ new _ h);
 }
 
 pub heard_so : (env : RunEnvironment) (s : State) (d : Declared) (values : List Value) (report : List ℕ) (new : State)
-    → heard_by (found_world env s) s d values ≡ says report new → IsMirrored env s d new
+    → heard_by (found_world env s) s d values ≡ accepted report new → IsMirrored env s d new
 heard_so env s d (Number k ∷ Text l ∷ []) report new h =
     (heard_if_so env s d (group.unless_sent (found_world env s) k) k (mirror_number l d.mirrors) l report new
     h).mirrored
 heard_so env s d values report new h = cc
 
 pub fetched_so : (env : RunEnvironment) (s : State) (d : Declared) (values : List Value) (report : List ℕ) (new : State)
-    → fetched_by env (found_world env s) s d values ≡ says report new → IsMirrored env s d new
+    → fetched_by env (found_world env s) s d values ≡ accepted report new → IsMirrored env s d new
 fetched_so env s d (Text l ∷ Number workers ∷ Number tries ∷ Number loss ∷ []) report new h =
     let i : ℕ = mirror_number l d.mirrors in
     one_mirrored env s d i
     (mirror_fetches env.passes (found_world env s) i tries loss (mirror_of s.mirrors i)) new
-    (says_state report _ new _ h)
+    (accepted_state report _ new _ h)
 fetched_so env s d values report new h = cc
 
 pub listed_so : (env : RunEnvironment) (s : State) (d : Declared) (values : List Value) (report : List ℕ) (new : State)
-    → listed_by (found_world env s) s d values ≡ says report new → IsMirrored env s d new
+    → listed_by (found_world env s) s d values ≡ accepted report new → IsMirrored env s d new
 listed_so env s d (Text l ∷ []) report new h =
-    record { mirrors = s.mirrors; many = refl; next = says_state report _ new _ h }
+    record { mirrors = s.mirrors; many = refl; next = accepted_state report _ new _ h }
 listed_so env s d values report new h = cc
 
 -- There are as many after an event.

@@ -12,21 +12,22 @@ use Rattle.script_lang.specs.Forms.{Stated}
 use Rattle.script_lang.specs.Lines.{line_of}
 use Rattle.script_lang.specs.Checking.{Declared, after_line, party_label}
 use Rattle.script_story.specs.StatedEvents.{stated_event}
-use Rattle.script_story.specs.ReportedTexts.{reported_text}
-use Rattle.script_story.specs.Judging.{RunEnvironment, State, acted, acted_if, check_refused, checked, event_refused}
-use Rattle.script_story.specs.Judging.{found_world, judged, judged_line, line_taken, mirrors_after, outside_of, read}
-use Rattle.script_story.specs.Judging.{says}
-use Rattle.script_story.specs.Judging.{stepped, taken_by}
-use Rattle.script_story.specs.Story.{Reached}
+use Rattle.script_story.specs.ReportTexts.{report_text}
+use Rattle.script_story.specs.Evaluation.{RunEnvironment, State, acted, acted_if, check_refused, checked, event_refused}
+use Rattle.script_story.specs.Evaluation.{found_world, evaluated, evaluated_line, line_taken, mirrors_after, outside_of}
+use Rattle.script_story.specs.Evaluation.{read}
+use Rattle.script_story.specs.Evaluation.{accepted}
+use Rattle.script_story.specs.Evaluation.{stepped, taken_by}
+use Rattle.script_story.specs.ScriptRun.{Reached}
 use Rattle.script_story.specs.Headline.{LineIsTaken}
 use Rattle.script_story.proofs.HeadlineLines.{judged_by}
-use Rattle.script_story.proofs.HeadlineTaken.{says_report, says_state}
+use Rattle.script_story.proofs.HeadlineTaken.{accepted_report, accepted_state}
 
 -- An event was carried out.
 pub record IsActed (env : RunEnvironment) (s : State) (d : Declared) (e : EventValue) (report : List ℕ)
     (new : State) : Type 0 where
   pub taken : refusals.refusal (outside_of env s.keys) (found_world env s) (group_event s.keys e) ≡ None
-  pub text : report ≡ reported_text (map party_label d.members)
+  pub text : report ≡ report_text (map party_label d.members)
       (event_report s.keys (outside_of env s.keys) (found_world env s) e)
   pub next : new ≡ record {
     declared = d;
@@ -37,7 +38,7 @@ pub record IsActed (env : RunEnvironment) (s : State) (d : Declared) (e : EventV
         s.mirrors;
   }
 
-not_stated : (why : refusals.Refusal) (report : List ℕ) (new : State) → event_refused why ≡ says report new → ⊥
+not_stated : (why : refusals.Refusal) (report : List ℕ) (new : State) → event_refused why ≡ accepted report new → ⊥
 not_stated refusals.Refusal.NoSuchPacket report new h = cc
 not_stated refusals.Refusal.FetcherBusy report new h = cc
 not_stated refusals.Refusal.FetcherIdle report new h = cc
@@ -46,7 +47,7 @@ not_stated refusals.Refusal.Foreign report new h = cc
 not_stated refusals.Refusal.NoSuchNumber report new h = cc
 
 pub acts_so : (env : RunEnvironment) (s : State) (d : Declared) (e : EventValue) (report : List ℕ) (new : State)
-    → acted env s d e ≡ says report new → IsActed env s d e report new
+    → acted env s d e ≡ accepted report new → IsActed env s d e report new
 unfolding acted
 acts_so env s d e report new h = go (refusals.refusal out w (group_event s.keys e)) refl h where
   out : Environment
@@ -56,21 +57,21 @@ acts_so env s d e report new h = go (refusals.refusal out w (group_event s.keys 
   w = found_world env s
 
   go : (o : Option refusals.Refusal) → refusals.refusal out w (group_event s.keys e) ≡ o
-      → stepped out s d w e o ≡ says report new → IsActed env s d e report new
+      → stepped out s d w e o ≡ accepted report new → IsActed env s d e report new
   go (Some why) is k = absurd (not_stated why report new k)
   go None is k = record {
     taken = is;
-    text = says_report report _ new _ k;
-    next = says_state report _ new _ k;
+    text = accepted_report report _ new _ k;
+    next = accepted_state report _ new _ k;
   }
 
 -- A line states nothing, or it states what is taken after the lines before it.
 pub data LineTaken (env : RunEnvironment) (s : State) (line report : List ℕ) (new : State) : Type 0 where
   nothing : line_of line ≡ Ok None → new ≡ s → LineTaken env s line report new
   stating : (stated : Stated) (d : Declared) → line_of line ≡ Ok (Some stated) → after_line s.declared stated ≡ Ok d
-      → taken_by stated.verb env s d stated ≡ says report new → LineTaken env s line report new
+      → taken_by stated.verb env s d stated ≡ accepted report new → LineTaken env s line report new
 
-pub not_checked : (fault : CheckFault) (report : List ℕ) (new : State) → check_refused fault ≡ says report new → ⊥
+pub not_checked : (fault : CheckFault) (report : List ℕ) (new : State) → check_refused fault ≡ accepted report new → ⊥
 not_checked check_fault.NoGroup report new h = cc
 not_checked check_fault.Late report new h = cc
 not_checked check_fault.UnknownLabel report new h = cc
@@ -79,21 +80,21 @@ not_checked check_fault.Limit report new h = cc
 not_checked check_fault.TooLarge report new h = cc
 not_checked check_fault.NoMemory report new h = cc
 
-says_line : (env : RunEnvironment) (s : State) (line report : List ℕ) (new : State) → judged env s line
-    ≡ says report new
+says_line : (env : RunEnvironment) (s : State) (line report : List ℕ) (new : State) → evaluated env s line
+    ≡ accepted report new
     → LineTaken env s line report new
-unfolding judged judged_line line_taken
+unfolding evaluated evaluated_line line_taken
 says_line env s line report new h = go (line_of line) refl h where
   by_check : (stated : Stated) → line_of line ≡ Ok (Some stated) → (r : Result Declared CheckFault)
-      → after_line s.declared stated ≡ r → checked env s stated r ≡ says report new
+      → after_line s.declared stated ≡ r → checked env s stated r ≡ accepted report new
       → LineTaken env s line report new
   by_check stated is (Ok d) after k = stating stated d is after k
   by_check stated is (Err fault) after k = absurd (not_checked fault report new k)
 
-  go : (r : Result (Option Stated) LineFault) → line_of line ≡ r → read env s r ≡ says report new
+  go : (r : Result (Option Stated) LineFault) → line_of line ≡ r → read env s r ≡ accepted report new
       → LineTaken env s line report new
   go (Ok (Some stated)) is k = by_check stated is (after_line s.declared stated) refl k
-  go (Ok None) is k = nothing is (says_state report [] new s k)
+  go (Ok None) is k = nothing is (accepted_state report [] new s k)
   go (Err line_fault.Syntax) is k = cc
   go (Err line_fault.Limit) is k = cc
   go (Err line_fault.NoMemory) is k = cc
@@ -115,7 +116,7 @@ pub record StatedTaken (env : RunEnvironment) (s : State) (stated : Stated) (rep
     0 where
   pub d : Declared
   pub after : after_line s.declared stated ≡ Ok d
-  pub is : taken_by stated.verb env s d stated ≡ says report new
+  pub is : taken_by stated.verb env s d stated ≡ accepted report new
 
 pub stated_taken : (env : RunEnvironment) (s : State) (line report : List ℕ) (new : State) (stated : Stated)
     → line_of line ≡ Ok (Some stated) → LineTaken env s line report new → StatedTaken env s stated report new
@@ -127,7 +128,7 @@ stated_taken env s line report new stated is (stating other d read after taken) 
 
 -- An event that is said was carried out.
 pub acted_stated : (env : RunEnvironment) (s : State) (d : Declared) (stated : Stated) (report : List ℕ) (new : State)
-    → (o : Option EventValue) → stated_event d stated ≡ o → acted_if env s d o ≡ says report new
+    → (o : Option EventValue) → stated_event d stated ≡ o → acted_if env s d o ≡ accepted report new
     → (e : EventValue) × (stated_event d stated ≡ Some e) × IsActed env s d e report new
 acted_stated env s d stated report new (Some e) is h = (e, is, acts_so env s d e report new h)
 acted_stated env s d stated report new None is h = cc

@@ -8,7 +8,7 @@ use Rattle.std.proofs.lemmas.Bool.{cases_lt, eqb-true, ne_eqb, lt-leb}
 use Rattle.std.proofs.lemmas.List.{get_or-drop, get_or-take, length-drop, length-take}
 use Rattle.std.proofs.lemmas.Option.{get_or_from_slice_get, slice_get-get_or, slice_get-map, slice_get_within}
 use Rattle.sha2.specs.Sha256.{sha256}
-use Rattle.repo_plan.specs.Parts.{IsShape, index_packets, parent_number, parts_after, shape_of_segments}
+use Rattle.repo_plan.specs.Parts.{IsShape, index_packets, parent_number, last_part, shape_of_segments}
 use Rattle.repo_plan.specs.declared.shape.Shape.{Shape}
 use Rattle.repo_plan.proofs.Parents.{by_record, lists_in_turn}
 use Rattle.repo_object.specs.Objects.{IsObject, IsPost, IsPublisher, NamedContents, Post, Publisher, shape_in}
@@ -24,7 +24,7 @@ use Rattle.script_story.specs.ListedDigests.{ListsDigest, digests_stated, listed
 
 module _ (by : Publisher) (is_publisher : IsPublisher by) (seq : ℕ) (low : seq < 2 ^ 16) (object : NamedContents)
     (is_object : IsObject object) (x : ℕ) (after : 0 < x)
-    (counted : x ≤ parts_after (shape_of_segments (length object.contents))) (octets : List ℕ)
+    (counted : x ≤ last_part (shape_of_segments (length object.contents))) (octets : List ℕ)
     (its : packet_at by seq (Offers object) x ≡ Some octets) where
   abbrev n : ℕ
   n = length object.contents
@@ -156,7 +156,7 @@ module _ (by : Publisher) (is_publisher : IsPublisher by) (seq : ℕ) (low : seq
 -- ---- any publication
 
 pub lists_digest : (by : Publisher) → IsPublisher by → (seq : ℕ) (post : Post) → IsPost seq post → seq < 2 ^ 16
-    → (x : ℕ) → 0 < x → x ≤ parts_after (shape_in post) → (octets : List ℕ) → packet_at by seq post x ≡ Some octets
+    → (x : ℕ) → 0 < x → x ≤ last_part (shape_in post) → (octets : List ℕ) → packet_at by seq post x ≡ Some octets
     → ListsDigest by seq post x octets
 lists_digest by is_publisher seq (Offers object) is_post low x after counted octets its =
     of_object by is_publisher seq low object is_post x after counted octets its

@@ -10,7 +10,7 @@ use Rattle.svs_vector.proofs.JoinLemmas.{join-at}
 use Rattle.repo_plan.specs.declared.part.Part.{Part}
 use Rattle.sorted_lists.specs.SortedList.{contains}
 use Rattle.sorted_lists.proofs.Sets.{In}
-use Rattle.repo_plan.specs.Parts.{Pair, pair_cmp, pair_of, part_of, parts_after}
+use Rattle.repo_plan.specs.Parts.{Pair, pair_cmp, pair_of, part_of, last_part}
 use Rattle.repo_object.specs.Objects.{Post, shape_in, withdraws_number}
 use Rattle.repo_watch.specs.Patterns.{accepts, begins_with, is_publisher}
 use Rattle.group_model.specs.Publications.{Publication, count, is_object, is_unwithdrawn, join_of, last_of, object_in}
@@ -19,20 +19,20 @@ use Rattle.group_model.specs.Member.{member_holds}
 use Rattle.group_model.specs.World.{World, logs, member, no_member, someone_holds}
 use Rattle.group_model.specs.Steps.{settled_vector}
 use Rattle.group_model.specs.Sound.{IsSoundGroup, IsSoundMember}
-use Rattle.group_model.specs.Laws.{NothingHidden}
+use Rattle.group_model.specs.Laws.{NothingDeleted}
 use Rattle.group_model.proofs.Lists.{all_in, in_at, same_any, same_filter}
 use Rattle.group_model.proofs.Parts.{IsIn, IsPartOf, from_parts_in, in_published, publisher_within}
-use Rattle.group_model.proofs.Settles.{someone, reported_by}
-use Rattle.repo_mirror.specs.Asked.{is_kept, is_kept_post}
+use Rattle.group_model.proofs.Settles.{someone, knows_settled}
+use Rattle.repo_mirror.specs.Asked.{is_for, is_post_for}
 use Rattle.repo_mirror.specs.Mirrors.{is_entry_accepted}
 use Rattle.repo_mirror.proofs.Joins.{both_filters}
 use Rattle.repo_mirror.proofs.Lists.{kept_object}
-use Rattle.script_story.specs.Mirrors.{Mirroring, comes_to, is_listed_by, is_withdrawn_to, mirror_settles}
+use Rattle.script_story.specs.Mirrors.{Mirroring, is_gained, is_listed_by, is_withdrawn_to, mirror_settles}
 use Rattle.script_story.specs.Mirrors.{mirrored_entries}
 
 -- ---- what comes
 
-module _ (w : World) (m : Mirroring) (group : IsSoundGroup w) (clear : NothingHidden w) where
+module _ (w : World) (m : Mirroring) (group : IsSoundGroup w) (clear : NothingDeleted w) where
   abbrev new : Mirroring
   new = mirror_settles w m
 
@@ -51,7 +51,7 @@ module _ (w : World) (m : Mirroring) (group : IsSoundGroup w) (clear : NothingHi
       ] in
       someone w.members (member w q.publisher) t (in_at w.members q.publisher no_member publisher)
       (subst (λ (pair : Pair). member_holds (member w q.publisher) (part_of pair t.part) ≡ true) (sym p.pair)
-      (held t.part (subst (λ (o : Post). t.part ≤ parts_after (shape_in o)) is.post p.counted)))
+      (held t.part (subst (λ (o : Post). t.part ≤ last_part (shape_in o)) is.post p.counted)))
 
   -- The mirror knows of it.
   known : (q : Publication) → IsIn (logs w) q
@@ -61,23 +61,23 @@ module _ (w : World) (m : Mirroring) (group : IsSoundGroup w) (clear : NothingHi
       let own : get_or (member w q.publisher).known q.publisher 0 ≡ last_of (logs w) q.publisher =
       (group.members q.publisher publisher).own in
       let up : get_or (member w q.publisher).known q.publisher 0 ≤ get_or (settled_vector w) q.publisher 0 =
-      reported_by w group q.publisher publisher q.publisher q.publisher publisher in
+      knows_settled w group q.publisher publisher q.publisher q.publisher publisher in
       let at = join-at m.known (settled_vector w) q.publisher in
       let last = is.there.to_last in
       omega (arith, own, up, at, last)
 
   module _ (q : Publication) (is : IsIn (logs w) q)
       (asked : is_publisher m.pattern.publisher q.publisher ≡ true) where
-    comes : (t : Part) → IsPartOf t q → (t.part == 0 || is_kept m.pattern (logs w) (pair_of t)) ≡ true
+    comes : (t : Part) → IsPartOf t q → (t.part == 0 || is_for m.pattern (logs w) (pair_of t)) ≡ true
         → new.holds t ≡ true
     comes t p part =
-        or_right (m.holds t) (comes_to w m t)
+        or_right (m.holds t) (is_gained w m t)
         (and_from (nat_le t.seq (slice_index (join m.known (settled_vector w)) t.publisher)) _
         (subst (λ (pair : Pair). nat_le pair.1 (slice_index (join m.known (settled_vector w)) pair.0) ≡ true)
         (sym p.pair) (le-leb q.seq _ (known q is)))
         (and_from (is_publisher m.pattern.publisher t.publisher) _
         (ap (is_publisher m.pattern.publisher) (ap (λ (pair : Pair). pair.0) p.pair) ∙ asked)
-        (and_from (t.part == 0 || is_kept m.pattern (logs w) (pair_of t)) (someone_holds w.members t) part
+        (and_from (t.part == 0 || is_for m.pattern (logs w) (pair_of t)) (someone_holds w.members t) part
         (someones q is t p))))
 
   module _ (q : Publication) (i : In q (published (logs w))) where
@@ -125,14 +125,14 @@ module _ (w : World) (m : Mirroring) (group : IsSoundGroup w) (clear : NothingHi
           all_in new.holds (parts_in q) (λ t it.
           let p : IsPartOf t q = from_parts_in q t it in
           comes q is asked t p
-          (or_right (t.part == 0) (is_kept m.pattern (logs w) (pair_of t))
-          (ap (is_kept m.pattern (logs w)) p.pair ∙ ap (is_kept_post m.pattern q.publisher) (sym is.post)
+          (or_right (t.part == 0) (is_for m.pattern (logs w) (pair_of t))
+          (ap (is_for m.pattern (logs w)) p.pair ∙ ap (is_post_for m.pattern q.publisher) (sym is.post)
           ∙ kept_object m.pattern q.publisher q.post e ∙ f))) in
           ap (λ (b : Bool). b && not (is_withdrawn_to (published (logs w)) new (pair_in q))) held
           ∙ ap (λ (b : Bool). true && not b) (withdrawn asked)
           ∙ shuffled (not (list_any (withdraws (pair_in q)) (published (logs w))))
 
-pub settled_joins : (w : World) (m : Mirroring) → IsSoundGroup w → NothingHidden w
+pub settled_joins : (w : World) (m : Mirroring) → IsSoundGroup w → NothingDeleted w
     → mirrored_entries w (mirror_settles w m) ≡ filter (is_entry_accepted m.pattern) (join_of (logs w))
 settled_joins w m group clear =
     ap (map published_entry)

@@ -16,13 +16,13 @@ use Rattle.script_lang.proofs.Conditions.{and_left, and_right}
 use Rattle.bench_world.specs.EventValues.{EventValue, group_event}
 use Rattle.script_story.specs.Mirrors.{Mirroring}
 use Rattle.script_story.specs.StatedEvents.{party_number, stated_by, stated_event}
-use Rattle.script_story.specs.Judging.{RunEnvironment, State, acted_by, found_world, listed_by, mirrors_after}
-use Rattle.script_story.specs.Judging.{outside_of, says}
-use Rattle.script_story.specs.Judging.{taken_by}
-use Rattle.script_story.specs.Story.{Reached}
-use Rattle.script_story.specs.Headline.{LinesAreTaken, changes_nothing, only_reports}
+use Rattle.script_story.specs.Evaluation.{RunEnvironment, State, acted_by, found_world, listed_by, mirrors_after}
+use Rattle.script_story.specs.Evaluation.{outside_of, accepted}
+use Rattle.script_story.specs.Evaluation.{taken_by}
+use Rattle.script_story.specs.ScriptRun.{Reached}
+use Rattle.script_story.specs.Headline.{LinesAreTaken, changes_nothing, only_prints}
 use Rattle.script_story.specs.MirrorLaws.{only_shows, shows_alone}
-use Rattle.script_story.proofs.HeadlineTaken.{says_state, reported_so, watched_so}
+use Rattle.script_story.proofs.HeadlineTaken.{accepted_state, reported_so, watched_so}
 use Rattle.script_story.proofs.LinesTaken.{LineTaken, acted_stated, nothing, stating, taken_line}
 
 -- ---- one line
@@ -51,13 +51,13 @@ keeps w mirrors verb.Traffic d [] e only is = kept w mirrors EventValue.Traffic 
 keeps w mirrors form d values e only is = cc
 
 listed_keeps : (env : RunEnvironment) (s : State) (d : Declared) (values : List Value) (report : List ℕ) (new : State)
-    → listed_by (found_world env s) s d values ≡ says report new → new.mirrors ≡ s.mirrors
-listed_keeps env s d (Text l ∷ []) report new h = ap (λ (x : State). x.mirrors) (says_state report _ new _ h)
+    → listed_by (found_world env s) s d values ≡ accepted report new → new.mirrors ≡ s.mirrors
+listed_keeps env s d (Text l ∷ []) report new h = ap (λ (x : State). x.mirrors) (accepted_state report _ new _ h)
 listed_keeps env s d values report new h = cc
 
 form_keeps : (env : RunEnvironment) (s : State) (stated : Stated) (d : Declared) (report : List ℕ) (new : State)
     → only_shows stated.verb ≡ true → (form : Verb) → only_shows form ≡ true
-    → taken_by form env s d stated ≡ says report new → new.mirrors ≡ s.mirrors
+    → taken_by form env s d stated ≡ accepted report new → new.mirrors ≡ s.mirrors
 unfolding acted_by
 form_keeps env s stated d report new only verb.Group shows is = cc
 form_keeps env s stated d report new only verb.Member shows is = cc
@@ -97,7 +97,7 @@ lines_keep env r (line ∷ lines) (report ∷ reports) later taken shows =
     (and_left (shows_alone (line_of line)) _ shows)
 
 -- They change nothing of the group either.
-form_reports : (form : Verb) → only_shows form ≡ true → only_reports form ≡ true
+form_reports : (form : Verb) → only_shows form ≡ true → only_prints form ≡ true
 form_reports verb.Mdeliver shows = refl
 form_reports verb.Mfetch shows = refl
 form_reports form shows = shows

@@ -23,12 +23,15 @@ use Rattle.script_lang.proofs.StatedForms.{read_in_its_form}
 use Rattle.repo_watch.specs.Watching.{watch_of}
 use Rattle.bench_world.specs.EventValues.{EventValue, group_event}
 use Rattle.script_report.specs.declared.refusal.Refusal.TheVariants as refusal
-use Rattle.script_story.specs.Judging.{EachLineIsJudged, RunEnvironment, State, SyntaxIsOfTheGrammar, Verdict, acted}
-use Rattle.script_story.specs.Judging.{acted_by}
-use Rattle.script_story.specs.Judging.{checked, check_refused, event_refused, foreign, found_world, heard_if, judged}
-use Rattle.script_story.specs.Judging.{judged_line}
-use Rattle.script_story.specs.Judging.{line_taken, outside_of, read, refused, says, stepped, taken_by, unjudged}
-use Rattle.script_story.specs.Judging.{watchers_at}
+use Rattle.script_story.specs.Evaluation.{EachLineIsEvaluated, RunEnvironment, State, SyntaxIsOfTheGrammar, Verdict}
+use Rattle.script_story.specs.Evaluation.{acted}
+use Rattle.script_story.specs.Evaluation.{acted_by}
+use Rattle.script_story.specs.Evaluation.{checked, check_refused, event_refused, foreign, found_world, heard_if}
+use Rattle.script_story.specs.Evaluation.{evaluated}
+use Rattle.script_story.specs.Evaluation.{evaluated_line}
+use Rattle.script_story.specs.Evaluation.{line_taken, outside_of, read, refused, accepted, stepped, taken_by}
+use Rattle.script_story.specs.Evaluation.{not_evaluated}
+use Rattle.script_story.specs.Evaluation.{watchers_at}
 use Rattle.script_story.specs.StatedEvents.{mirror_number, party_number}
 
 -- ---- values by their kinds
@@ -97,8 +100,8 @@ abbrev IsBeyondGrammar : Verdict → Type 0
 IsBeyondGrammar (refused refusal.Syntax) = ⊥
 IsBeyondGrammar (refused why) = Unit {0}
 IsBeyondGrammar foreign = Unit {0}
-IsBeyondGrammar (says report next) = Unit {0}
-IsBeyondGrammar unjudged = ⊥
+IsBeyondGrammar (accepted report next) = Unit {0}
+IsBeyondGrammar not_evaluated = ⊥
 
 event_beyond : (why : group.Refusal) → IsBeyondGrammar (event_refused why)
 event_beyond group.Refusal.NoSuchPacket = tt
@@ -118,12 +121,12 @@ acted_beyond env s d e =
       go None = tt
 
 full_or_stated : (b : Bool) (report : List ℕ) (next : State)
-    → IsBeyondGrammar (if b then refused refusal.Limit else says report next)
+    → IsBeyondGrammar (if b then refused refusal.Limit else accepted report next)
 full_or_stated true report next = tt
 full_or_stated false report next = tt
 
 stated_or_missing : (b : Bool) (report : List ℕ) (next : State)
-    → IsBeyondGrammar (if b then says report next else refused refusal.NoSuchWatch)
+    → IsBeyondGrammar (if b then accepted report next else refused refusal.NoSuchWatch)
 stated_or_missing true report next = tt
 stated_or_missing false report next = tt
 
@@ -168,8 +171,8 @@ check_beyond check_fault.TooLarge cause = tt
 check_beyond check_fault.NoMemory cause = absurd (cause refl)
 
 line_beyond : (env : RunEnvironment) (s : State) (octets : List ℕ) (line : Stated) → line_of octets ≡ Ok (Some line)
-    → IsBeyondGrammar (judged_line env s line)
-unfolding judged_line
+    → IsBeyondGrammar (evaluated_line env s line)
+unfolding evaluated_line
 line_beyond env s octets line is =
     go (after_line s.declared line) (checked_for_a_cause s.declared line (read_in_its_form octets line is)) where
       text : IsLineText line octets
@@ -184,9 +187,9 @@ line_beyond env s octets line is =
 
 -- Either the grammar refuses it as Syntax, or what it comes to is something else.
 either_way : (env : RunEnvironment) (s : State) (octets : List ℕ)
-    → ((line_of octets ≡ Err line_fault.Syntax) × (judged env s octets ≡ refused refusal.Syntax))
-    ⊎ IsBeyondGrammar (judged env s octets)
-unfolding judged
+    → ((line_of octets ≡ Err line_fault.Syntax) × (evaluated env s octets ≡ refused refusal.Syntax))
+    ⊎ IsBeyondGrammar (evaluated env s octets)
+unfolding evaluated
 either_way env s octets = go (line_of octets) refl (read_for_a_cause octets) where
   go : (r : Result (Option Stated) LineFault) → line_of octets ≡ r → IfErr r (λ f. f ≢ line_fault.NoMemory)
       → ((line_of octets ≡ Err line_fault.Syntax) × (read env s (line_of octets) ≡ refused refusal.Syntax))
@@ -198,21 +201,21 @@ either_way env s octets = go (line_of octets) refl (read_for_a_cause octets) whe
   go (Err line_fault.Limit) is cause = inr (subst (λ x. IsBeyondGrammar (read env s x)) (sym is) tt)
   go (Err line_fault.NoMemory) is cause = absurd (cause refl)
 
-pub is_judged : EachLineIsJudged
-is_judged env s octets none = elim (either_way env s octets) [
+pub is_evaluated : EachLineIsEvaluated
+is_evaluated env s octets none = elim (either_way env s octets) [
   | inl syntax ↦ let two = sym syntax.1 ∙ none in cc
   | inr beyond ↦ subst IsBeyondGrammar none beyond
 ]
 
 read_so : (env : RunEnvironment) (s : State) (octets : List ℕ) → line_of octets ≡ Err line_fault.Syntax
-    → judged env s octets ≡ refused refusal.Syntax
-unfolding judged
+    → evaluated env s octets ≡ refused refusal.Syntax
+unfolding evaluated
 read_so env s octets is = ap (read env s) is
 
 pub syntax_is : SyntaxIsOfTheGrammar
 syntax_is env s octets = (to, read_so env s octets) where
-  to : judged env s octets ≡ refused refusal.Syntax → line_of octets ≡ Err line_fault.Syntax
-  to reported = elim (either_way env s octets) [
+  to : evaluated env s octets ≡ refused refusal.Syntax → line_of octets ≡ Err line_fault.Syntax
+  to printed = elim (either_way env s octets) [
     | inl syntax ↦ syntax.0
-    | inr beyond ↦ absurd (subst IsBeyondGrammar reported beyond)
+    | inr beyond ↦ absurd (subst IsBeyondGrammar printed beyond)
   ]

@@ -10,11 +10,11 @@ use Rattle.repo_object.specs.Objects.{offered}
 use Rattle.repo_catalog.specs.declared.entry.Entry.{Entry}
 use Rattle.repo_catalog.specs.Entries.{IsCatalogue, lists, publication_of}
 use Rattle.group_model.specs.Publications.{Logs, Publication, count, join_of, post_at, published_entry}
-use Rattle.group_model.specs.Member.{member_holds, member_hides}
+use Rattle.group_model.specs.Member.{member_holds, has_deleted}
 use Rattle.group_model.specs.World.{World, catalogue_at, logs, member}
 use Rattle.group_model.specs.Sound.{IsPublished, IsSoundGroup}
 use Rattle.group_model.specs.Catalogues.{HoldsNoWithdrawal}
-use Rattle.group_model.specs.Laws.{AllJoined, NothingHidden}
+use Rattle.group_model.specs.Laws.{AllJoined, NothingDeleted}
 use Rattle.repo_member.specs.InGroup.{AreLogs}
 use Rattle.script_lang.specs.declared.line_fault.LineFault.{LineFault}
 use Rattle.script_lang.specs.declared.verb.Verb.{Verb}
@@ -28,16 +28,16 @@ use Rattle.script_story.specs.declared.ending.Ending.{Ending}
 use Rattle.script_story.specs.declared.ending.Ending.TheVariants.{Done, Refused, Foreign}
 use Rattle.script_report.specs.Refusals.{refusal_number, refusal_text}
 use Rattle.script_report.specs.Labels.{label_at, publisher_label}
-use Rattle.script_story.specs.Judging.{RunEnvironment, Verdict, says, foreign, unjudged, found_world}
-use Rattle.script_story.specs.Judging as verdict
-use Rattle.script_story.specs.Story.{Reached, Story, reached_after, after_text, judged_next, nothing_reached}
-use Rattle.script_story.specs.Story.{story_from}
+use Rattle.script_story.specs.Evaluation.{RunEnvironment, Verdict, accepted, foreign, not_evaluated, found_world}
+use Rattle.script_story.specs.Evaluation as verdict
+use Rattle.script_story.specs.ScriptRun.{Reached, ScriptRun, reached_after, after_text, evaluated_next, nothing_reached}
+use Rattle.script_story.specs.ScriptRun.{run_from}
 
 -- ---- lines that are taken
 
 -- A line is taken: it has this report, and this is reached after it.
 pub record LineIsTaken (env : RunEnvironment) (r : Reached) (line report : List ℕ) (new : Reached) : Type 0 where
-  pub verdict : judged_next env r line ≡ says report new.state
+  pub verdict : evaluated_next env r line ≡ accepted report new.state
   pub reached : new ≡ reached_after r line report new.state
 
 -- Lines are taken one after the other: these are their reports, line by line, and this is reached after the last.
@@ -56,11 +56,11 @@ pub record IsTakenAmid (env : RunEnvironment) (r : Reached) (before : List (List
     (others reports : List (List ℕ)) (last : Reached) : Type 0 where
   pub here : Reached
   pub new : Reached
-  pub reported : List (List ℕ)
+  pub printed : List (List ℕ)
   pub report : List ℕ
   pub later : List (List ℕ)
-  pub reports_are : reports ≡ reported ++ report ∷ later
-  pub before_it : LinesAreTaken env r before reported here
+  pub reports_are : reports ≡ printed ++ report ∷ later
+  pub before_it : LinesAreTaken env r before printed here
   pub it : LineIsTaken env here line report new
   pub after_it : LinesAreTaken env new others later last
 
@@ -68,21 +68,21 @@ pub record IsTakenAmid (env : RunEnvironment) (r : Reached) (before : List (List
 
 -- How a story ends after a line of this number that comes to this: a taken line ends none, and each line is judged.
 abbrev pub EndsBy : ℕ → Verdict → List ℕ → Ending → Type 0
-EndsBy number (says report next) text ending = ⊥
+EndsBy number (accepted report next) text ending = ⊥
 EndsBy number (verdict.refused why) text ending =
     (text ≡ refusal_text number why) × (ending ≡ Refused number (refusal_number why))
 EndsBy number foreign text ending = (text ≡ foreign_text number) × (ending ≡ Foreign number)
-EndsBy number unjudged text ending = ⊥
+EndsBy number not_evaluated text ending = ⊥
 
 -- How it ends with these lines left: there are none, or the first of them is refused or foreign, and its number is
 -- written.
 abbrev pub EndsWith : RunEnvironment → Reached → List (List ℕ) → List ℕ → Ending → Type 0
 EndsWith env r [] text ending = (text ≡ []) × (ending ≡ Done)
-EndsWith env r (line ∷ others) text ending = EndsBy (r.lines + 1) (judged_next env r line) text ending
+EndsWith env r (line ∷ others) text ending = EndsBy (r.lines + 1) (evaluated_next env r line) text ending
 
 -- A story, by its lines: the first ones are taken, and the text is their reports and what is written of the next
 -- line, which is refused or foreign. The names, keys, world and mirrors are those after the last line that is taken.
-pub record IsToldBy (env : RunEnvironment) (r : Reached) (script : List (List ℕ)) (s : Story) : Type 0 where
+pub record IsReportOf (env : RunEnvironment) (r : Reached) (script : List (List ℕ)) (s : ScriptRun) : Type 0 where
   pub first : List (List ℕ)
   pub others : List (List ℕ)
   pub reports : List (List ℕ)
@@ -135,7 +135,7 @@ HoldsAllOf w m pair = (x : ℕ) → x ≤ count (logs w) pair → member_holds (
 pub record IsToBeListed (w : World) (m : ℕ) (pair : Pair) : Type 0 where
   pub published : IsPublished (logs w) pair
   pub object : is_some (offered (post_at (logs w) pair)) ≡ true
-  pub undeleted : member_hides (member w m) pair ≡ false
+  pub undeleted : has_deleted (member w m) pair ≡ false
   pub had : (pair.0 ≡ m) ⊎ HoldsAllOf w m pair
   pub not_withdrawn : HoldsNoWithdrawal (logs w) (member w m) pair
 
@@ -143,7 +143,7 @@ pub record IsToBeListed (w : World) (m : ℕ) (pair : Pair) : Type 0 where
 pub record ListExactly (w : World) (m : ℕ) (entries : List Entry) : Type 0 where
   pub exactly : (pair : Pair) → (lists pair entries ≡ true) ↔ IsToBeListed w m pair
   pub in_order : IsCatalogue entries
-  pub reported : All (λ e. e ≡ published_entry (publication_at (logs w) (publication_of e))) entries
+  pub printed : All (λ e. e ≡ published_entry (publication_at (logs w) (publication_of e))) entries
 
 -- Entries are printed under the label of a member, each with the label of its publisher.
 abbrev pub printed_entries : List (List ℕ) → List ℕ → List Entry → List ℕ
@@ -174,25 +174,25 @@ pub record IsSettleLine (env : RunEnvironment) (r : Reached) (report : List ℕ)
   pub taken : LineIsTaken env r line report new
 
 -- These forms change nothing of the group: they say what there is, or they are of watchers or of mirrors.
-abbrev pub only_reports : Verb → Bool
-only_reports verb.Sync = true
-only_reports verb.Vector = true
-only_reports verb.Catalogue = true
-only_reports verb.Dump = true
-only_reports verb.Ask = true
-only_reports verb.Watch = true
-only_reports verb.Told = true
-only_reports verb.Mdeliver = true
-only_reports verb.Mfetch = true
-only_reports verb.Mcatalogue = true
-only_reports verb.Summary = true
-only_reports verb.Traffic = true
-only_reports other = false
+abbrev pub only_prints : Verb → Bool
+only_prints verb.Sync = true
+only_prints verb.Vector = true
+only_prints verb.Catalogue = true
+only_prints verb.Dump = true
+only_prints verb.Ask = true
+only_prints verb.Watch = true
+only_prints verb.Told = true
+only_prints verb.Mdeliver = true
+only_prints verb.Mfetch = true
+only_prints verb.Mcatalogue = true
+only_prints verb.Summary = true
+only_prints verb.Traffic = true
+only_prints other = false
 
 -- So does a line that states nothing.
 abbrev pub changes_nothing : Result (Option Stated) LineFault → Bool
 changes_nothing (Ok None) = true
-changes_nothing (Ok (Some stated)) = only_reports stated.verb
+changes_nothing (Ok (Some stated)) = only_prints stated.verb
 changes_nothing (Err fault) = false
 
 -- The group is the same, and so are the labels.
@@ -218,7 +218,7 @@ deletes_nothing (Err fault) = true
 abbrev pub BeginsWithReports : Type 0
 BeginsWithReports = (env : RunEnvironment) (first others reports : List (List ℕ)) (r : Reached)
     → AreTakenFirst env first reports r
-    → story_from env nothing_reached (first ++ others) ≡ after_text (concat reports) (story_from env r others)
+    → run_from env nothing_reached (first ++ others) ≡ after_text (concat reports) (run_from env r others)
 
 -- Each of the lines that are taken has its report at its place.
 abbrev pub EachIsTaken : Type 0
@@ -249,7 +249,7 @@ PrintsCatalogues = (env : RunEnvironment) (lines reports : List (List ℕ)) (r :
 -- After any lines that change nothing it prints the catalogue as it was before them.
 abbrev pub PrintsLater : Type 0
 PrintsLater = (env : RunEnvironment) (lines reports : List (List ℕ)) (r : Reached) → AreTakenFirst env lines reports r
-    → (between reported : List (List ℕ)) (later : Reached) → LinesAreTaken env r between reported later
+    → (between printed : List (List ℕ)) (later : Reached) → LinesAreTaken env r between printed later
     → list_all (λ line. changes_nothing (line_of line)) between ≡ true
     → (label report : List ℕ) (new : Reached) → IsCatalogueLine env later label report new
     → IsCatalogueOf (group_at env r) (labels_at r) label report
@@ -266,11 +266,11 @@ pub record IsJoined (env : RunEnvironment) (r : Reached) : Type 0 where
 -- So it is right after a `settle` line, where nothing is hidden.
 abbrev pub SettlesJoin : Type 0
 SettlesJoin = (env : RunEnvironment) (lines reports : List (List ℕ)) (r : Reached) → AreTakenFirst env lines reports r
-    → (report : List ℕ) (new : Reached) → IsSettleLine env r report new → NothingHidden (group_at env new)
+    → (report : List ℕ) (new : Reached) → IsSettleLine env r report new → NothingDeleted (group_at env new)
     → IsJoined env new
 
 -- Nothing is hidden where no line can have deleted anything.
 abbrev pub HidesByDeletionAlone : Type 0
 HidesByDeletionAlone = (env : RunEnvironment) (lines reports : List (List ℕ)) (r : Reached)
     → AreTakenFirst env lines reports r → list_all (λ line. deletes_nothing (line_of line)) lines ≡ true
-    → NothingHidden (group_at env r)
+    → NothingDeleted (group_at env r)

@@ -15,8 +15,8 @@ use Rattle.group_model.specs.World.{World, catalogue_at, logs, member}
 use Rattle.repo_member.specs.Groups.{GroupKeys, publisher_at}
 use Rattle.repo_member.specs.InGroup.{published_packet}
 use Rattle.repo_member.specs.ConsistentMembers.{published_want}
-use Rattle.script_story.specs.Judging.{RunEnvironment}
-use Rattle.script_story.specs.Story.{Reached}
+use Rattle.script_story.specs.Evaluation.{RunEnvironment}
+use Rattle.script_story.specs.ScriptRun.{Reached}
 use Rattle.script_story.specs.Headline.{AreTakenFirst, group_at}
 use Rattle.script_story.specs.ListedDigests.{ListsDigest}
 

@@ -1,9 +1,9 @@
 pub mod RefusalTexts
-pub mod ReportedTexts
+pub mod ReportTexts
 pub mod StatedEvents
 pub mod Mirrors
-pub mod Judging
-pub mod Story
+pub mod Evaluation
+pub mod ScriptRun
 pub mod Answers
 pub mod Headline
 pub mod InformedMembers

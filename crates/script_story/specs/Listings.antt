@@ -3,18 +3,18 @@ use Rattle.std.specs.Prelude.{ℕ, ◌≡◌, ◌≢◌, ◌<◌, ◌↔◌, tru
 use Rattle.repo_plan.specs.Parts.{Pair}
 use Rattle.repo_catalog.specs.Entries.{lists}
 use Rattle.group_model.specs.Publications.{last_of}
-use Rattle.group_model.specs.Member.{member_hides}
+use Rattle.group_model.specs.Member.{has_deleted}
 use Rattle.group_model.specs.World.{World, catalogue_at, logs, member, sent_at}
 use Rattle.group_model.specs.Catalogues.{BelongsInJoin, HoldsNoWithdrawal}
 use Rattle.group_model.specs.Settles.{IsHeldAmong}
 use Rattle.group_model.specs.Lasting.{StaysListed}
-use Rattle.group_model.specs.Laws.{NothingHidden, NothingWanted}
+use Rattle.group_model.specs.Laws.{NothingDeleted, NothingWanted}
 use Rattle.script_lang.specs.declared.verb.Verb.TheVariants as verb
 use Rattle.script_lang.specs.Kinds.{Text, Number}
 use Rattle.script_lang.specs.Forms.{statement}
 use Rattle.script_report.specs.Labels.{label_at}
-use Rattle.script_story.specs.Judging.{RunEnvironment}
-use Rattle.script_story.specs.Story.{Reached}
+use Rattle.script_story.specs.Evaluation.{RunEnvironment}
+use Rattle.script_story.specs.ScriptRun.{Reached}
 use Rattle.script_story.specs.Headline.{AreTakenFirst, IsJoined, IsSettleLine, LinesAreTaken, Says, group_at, labels_at}
 
 -- ---- right after a settle
@@ -23,7 +23,7 @@ use Rattle.script_story.specs.Headline.{AreTakenFirst, IsJoined, IsSettleLine, L
 -- the member hasn't deleted, and of whose withdrawals it holds no record.
 pub record IsLeftToList (before after : World) (m : ℕ) (pair : Pair) : Type 0 where
   pub held : IsHeldAmong before pair
-  pub undeleted : member_hides (member after m) pair ≡ false
+  pub undeleted : has_deleted (member after m) pair ≡ false
   pub not_withdrawn : HoldsNoWithdrawal (logs after) (member after m) pair
 
 -- Right after a `settle` line each member lists just that.
@@ -39,7 +39,7 @@ SettledListWhatIsHeld = (env : RunEnvironment) (lines reports : List (List ℕ))
 pub record IsLeftOfJoin (before after : World) (m : ℕ) (pair : Pair) : Type 0 where
   pub joins : BelongsInJoin (logs after) pair
   pub held : IsHeldAmong before pair
-  pub undeleted : member_hides (member after m) pair ≡ false
+  pub undeleted : has_deleted (member after m) pair ≡ false
 
 -- That is what each member lists too: no withdrawal is ever deleted, so each of them comes to all in a settle.
 abbrev pub SettledListWhatIsLeft : Type 0
@@ -54,8 +54,8 @@ SettledListWhatIsLeft = (env : RunEnvironment) (lines reports : List (List ℕ))
 -- What a member lists it lists after any further lines that are taken, with the same object, unless it has deleted it
 -- by then or holds the record of a withdrawal of it.
 abbrev pub ListedStay : Type 0
-ListedStay = (env : RunEnvironment) (before reported : List (List ℕ)) (r : Reached)
-    → AreTakenFirst env before reported r
+ListedStay = (env : RunEnvironment) (before printed : List (List ℕ)) (r : Reached)
+    → AreTakenFirst env before printed r
     → (lines reports : List (List ℕ)) (last : Reached) → LinesAreTaken env r lines reports last
     → (m : ℕ) (pair : Pair) → m < length (group_at env r).members
     → lists pair (catalogue_at (group_at env r) m) ≡ true
@@ -70,9 +70,9 @@ pub record IsInformedOfAll (env : RunEnvironment) (lines : List (List ℕ)) (las
   pub line : List ℕ
   pub others : List (List ℕ)
   pub lines_are : lines ≡ before ++ line ∷ others
-  pub reported : List (List ℕ)
+  pub printed : List (List ℕ)
   pub here : Reached
-  pub taken : AreTakenFirst env before reported here
+  pub taken : AreTakenFirst env before printed here
   pub sync : ℕ
   pub stated : Says line (statement verb.Deliver (Number sync ∷ Text (label_at (labels_at last) m) ∷ []))
   pub tells : slice_index (sent_at (group_at env here) sync).vector p ≡ last_of (logs (group_at env last)) p
@@ -84,4 +84,4 @@ InformedMembersJoin = (env : RunEnvironment) (lines reports : List (List ℕ)) (
     → AreTakenFirst env lines reports r
     → ((m p : ℕ) → m < length (labels_at r) → m ≢ p → 0 < last_of (logs (group_at env r)) p
     → IsInformedOfAll env lines r m p)
-    → NothingWanted (group_at env r) → NothingHidden (group_at env r) → IsJoined env r
+    → NothingWanted (group_at env r) → NothingDeleted (group_at env r) → IsJoined env r

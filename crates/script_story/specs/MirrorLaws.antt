@@ -10,14 +10,14 @@ use Rattle.script_lang.specs.Forms.{Stated, statement}
 use Rattle.script_lang.specs.Lines.{line_of}
 use Rattle.repo_catalog.specs.declared.entry.Entry.{Entry}
 use Rattle.group_model.specs.Publications.{join_of}
-use Rattle.group_model.specs.Laws.{NothingHidden}
+use Rattle.group_model.specs.Laws.{NothingDeleted}
 use Rattle.group_model.specs.World.{logs}
 use Rattle.repo_mirror.specs.Mirrors.{is_entry_accepted}
 use Rattle.script_story.specs.Mirrors.{Mirroring, mirror_of, mirrored_entries}
-use Rattle.script_story.specs.ReportedTexts.{listing_text}
-use Rattle.script_story.specs.Judging.{RunEnvironment}
-use Rattle.script_story.specs.Story.{Reached}
-use Rattle.script_story.specs.Headline.{AreTakenFirst, LineIsTaken, Says, group_at, labels_at, only_reports}
+use Rattle.script_story.specs.ReportTexts.{listing_text}
+use Rattle.script_story.specs.Evaluation.{RunEnvironment}
+use Rattle.script_story.specs.ScriptRun.{Reached}
+use Rattle.script_story.specs.Headline.{AreTakenFirst, LineIsTaken, Says, group_at, labels_at, only_prints}
 
 -- An `mcatalogue` line of this label that is taken.
 pub record IsMirrorLine (env : RunEnvironment) (r : Reached) (label report : List ℕ) (new : Reached) : Type 0 where
@@ -44,7 +44,7 @@ MirrorsAreListed = (env : RunEnvironment) (lines reports : List (List ℕ)) (r :
 abbrev pub only_shows : Verb → Bool
 only_shows verb.Mdeliver = false
 only_shows verb.Mfetch = false
-only_shows form = only_reports form
+only_shows form = only_prints form
 
 -- So does a line that states nothing.
 abbrev pub shows_alone : Result (Option Stated) LineFault → Bool
@@ -57,7 +57,7 @@ shows_alone (Err fault) = false
 abbrev pub MirrorsListTheirJoin : Type 0
 MirrorsListTheirJoin = (env : RunEnvironment) (before : List (List ℕ)) (settle : List ℕ) (workers : ℕ)
     (between reports : List (List ℕ)) (r : Reached) → AreTakenFirst env (before ++ settle ∷ between) reports r
-    → NothingHidden (group_at env r) → Says settle (statement verb.Settle (Number workers ∷ []))
+    → NothingDeleted (group_at env r) → Says settle (statement verb.Settle (Number workers ∷ []))
     → list_all (λ line. shows_alone (line_of line)) between ≡ true
     → (label report : List ℕ) (new : Reached) → IsMirrorLine env r label report new
     → ListsOfMirror r label report

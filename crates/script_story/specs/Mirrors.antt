@@ -17,7 +17,7 @@ use Rattle.group_model.specs.Publications.{shape_at, withdraws}
 use Rattle.group_model.specs.Member.{tries_of}
 use Rattle.group_model.specs.World.{World, logs, someone_holds}
 use Rattle.group_model.specs.Steps.{settled_vector}
-use Rattle.repo_mirror.specs.Asked.{is_kept}
+use Rattle.repo_mirror.specs.Asked.{is_for}
 use Rattle.repo_mirror.specs.Mirrors.{is_object_accepted, mirror_holds}
 use Rattle.repo_mirror.specs.MirrorState.{MirrorState}
 use Rattle.repo_mirror.specs.ConsistentMirrors.{mirror_in_group}
@@ -36,7 +36,7 @@ mirror_begins members pattern =
 
 -- It hears a vector.
 abbrev pub mirror_hears : List ℕ → Mirroring → Mirroring
-mirror_hears reported m = record m { known = join m.known reported }
+mirror_hears printed m = record m { known = join m.known printed }
 
 -- The mirror with its packets, as its group sees it.
 abbrev pub mirror_as : MirrorState → Mirroring
@@ -59,7 +59,7 @@ mirror_of mirrors i = slice_index_or mirrors i no_mirroring
 
 -- A part besides the record, which a held part lists, of an object that the pattern is for.
 abbrev pub is_asked_for : Logs → Mirroring → Part → Bool
-is_asked_for ls m t = m.holds (parent (shape_at ls (pair_of t)) t) && is_kept m.pattern ls (pair_of t)
+is_asked_for ls m t = m.holds (parent (shape_at ls (pair_of t)) t) && is_for m.pattern ls (pair_of t)
 
 -- A record, or such a part, of a known publication of a publisher that is asked, and that isn't held.
 abbrev pub is_wanted_by : Logs → Mirroring → Part → Bool
@@ -102,7 +102,7 @@ module _ (passes : ℕ → ℕ → ℕ → ℕ → ℕ → ℕ → Bool) (w : Wo
   -- which it never asks for again.
   abbrev pub counted : Mirroring → List Part
   counted m =
-      filter (λ t. is_kept m.pattern (logs w) (pair_of t) || not (is_some (attempt_of m t))) (asked_by w m)
+      filter (λ t. is_for m.pattern (logs w) (pair_of t) || not (is_some (attempt_of m t))) (asked_by w m)
 
   -- What came is held too.
   abbrev pub mirror_fetches : Mirroring → Mirroring
@@ -115,16 +115,16 @@ module _ (passes : ℕ → ℕ → ℕ → ℕ → ℕ → ℕ → Bool) (w : Wo
 
 -- A part that some member holds, of a publication that the mirror or a member knows of, and of a publisher that is
 -- asked: the record, or a part of an object that the pattern is for.
-abbrev pub comes_to : World → Mirroring → Part → Bool
-comes_to w m t =
+abbrev pub is_gained : World → Mirroring → Part → Bool
+is_gained w m t =
     nat_le t.seq (slice_index (join m.known (settled_vector w)) t.publisher)
     && (is_publisher m.pattern.publisher t.publisher
-    && ((t.part == 0 || is_kept m.pattern (logs w) (pair_of t)) && someone_holds w.members t))
+    && ((t.part == 0 || is_for m.pattern (logs w) (pair_of t)) && someone_holds w.members t))
 
 -- It knows what it and all members know, and holds those parts too.
 abbrev pub mirror_settles : World → Mirroring → Mirroring
 mirror_settles w m =
-    record m { known = join m.known (settled_vector w); holds = λ t. m.holds t || comes_to w m t }
+    record m { known = join m.known (settled_vector w); holds = λ t. m.holds t || is_gained w m t }
 
 -- ---- what it lists
 

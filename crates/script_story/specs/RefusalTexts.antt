@@ -74,7 +74,7 @@ sync_refusal_text labels sync.NoMemory = []
 -- Why octets are refused as one.
 abbrev pub hear_refusal_text : List (List ℕ) → HearRefusal → List ℕ
 hear_refusal_text labels (hear.Sync refusal) = sync_refusal_text labels refusal
-hear_refusal_text labels (hear.OwnNumberAhead own reported) = codes "OwnNumberAhead"
+hear_refusal_text labels (hear.OwnNumberAhead own printed) = codes "OwnNumberAhead"
 hear_refusal_text labels hear.NoMemory = []
 
 -- Why a packet is refused for a part.

@@ -9,8 +9,8 @@ use Rattle.group_model.specs.Publications.{join_of}
 use Rattle.group_model.specs.World.{catalogue_at, logs}
 use Rattle.script_story.specs.declared.ending.Ending.TheVariants.{Done}
 use Rattle.repo_io.specs.Lines.{lines}
-use Rattle.script_story.specs.Judging.{RunEnvironment}
-use Rattle.script_story.specs.Story.{Reached, story_of}
+use Rattle.script_story.specs.Evaluation.{RunEnvironment}
+use Rattle.script_story.specs.ScriptRun.{Reached, run_of}
 use Rattle.script_story.specs.Headline.{AreTakenFirst, IsCatalogueOf, Says, changes_nothing, deletes_nothing, group_at}
 use Rattle.script_story.specs.Headline.{labels_at}
 use Rattle.script_story.specs.HeldPackets.{HoldsChecked}
@@ -39,17 +39,17 @@ pub record ShowsJoin (env : RunEnvironment) (before : List (List ℕ)) (label te
 abbrev pub CatalogueLinesShow : Type 0
 CatalogueLinesShow = (env : RunEnvironment) (input : List ℕ) (before : List (List ℕ)) (line : List ℕ)
     (others : List (List ℕ))
-    (label : List ℕ) → (story_of env input).ending ≡ Done → lines input ≡ before ++ line ∷ others
-    → Says line (statement verb.Catalogue (Text label ∷ [])) → ShowsCatalogue env before label (story_of env input).text
+    (label : List ℕ) → (run_of env input).ending ≡ Done → lines input ≡ before ++ line ∷ others
+    → Says line (statement verb.Catalogue (Text label ∷ [])) → ShowsCatalogue env before label (run_of env input).text
 
 -- Where the line stands after a `settle` line, no line before that can have deleted anything, and the lines between
 -- them change nothing, it is the join.
 abbrev pub SettleLinesShow : Type 0
 SettleLinesShow = (env : RunEnvironment) (input : List ℕ) (before : List (List ℕ)) (settle : List ℕ) (workers : ℕ)
     (between : List (List ℕ)) (line : List ℕ) (others : List (List ℕ)) (label : List ℕ)
-    → (story_of env input).ending ≡ Done → lines input ≡ before ++ settle ∷ (between ++ line ∷ others)
+    → (run_of env input).ending ≡ Done → lines input ≡ before ++ settle ∷ (between ++ line ∷ others)
     → list_all (λ l. deletes_nothing (line_of l)) before ≡ true
     → Says settle (statement verb.Settle (Number workers ∷ []))
     → list_all (λ l. changes_nothing (line_of l)) between ≡ true
     → Says line (statement verb.Catalogue (Text label ∷ []))
-    → ShowsJoin env (before ++ settle ∷ between) label (story_of env input).text
+    → ShowsJoin env (before ++ settle ∷ between) label (run_of env input).text

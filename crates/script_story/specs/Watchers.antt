@@ -5,7 +5,7 @@ use Rattle.repo_plan.specs.Parts.{Pair}
 use Rattle.repo_catalog.specs.declared.entry.Entry.{Entry}
 use Rattle.repo_catalog.specs.Entries.{lists}
 use Rattle.repo_watch.specs.Watching.{Watching, is_for, watch_of}
-use Rattle.repo_watch.specs.Laws.{was_reported}
+use Rattle.repo_watch.specs.Laws.{was_announced}
 use Rattle.group_model.specs.Publications.{join_of}
 use Rattle.group_model.specs.World.{catalogue_at, logs}
 use Rattle.script_lang.specs.declared.verb.Verb.TheVariants as verb
@@ -13,14 +13,14 @@ use Rattle.script_lang.specs.Kinds.{Text, Number}
 use Rattle.script_lang.specs.Forms.{statement}
 use Rattle.script_lang.specs.Lines.{line_of}
 use Rattle.script_report.specs.Labels.{label_at}
-use Rattle.script_story.specs.ReportedTexts.{labelled_news}
-use Rattle.script_story.specs.Judging.{RunEnvironment, watchers_at}
-use Rattle.script_story.specs.Story.{Reached}
+use Rattle.script_story.specs.ReportTexts.{labelled_news}
+use Rattle.script_story.specs.Evaluation.{RunEnvironment, watchers_at}
+use Rattle.script_story.specs.ScriptRun.{Reached}
 use Rattle.script_story.specs.Headline.{AreTakenFirst, LineIsTaken, LinesAreTaken, Says, changes_nothing}
 use Rattle.script_story.specs.Headline.{deletes_nothing, group_at, labels_at}
 
 -- A `told` line of this label and number that is taken.
-pub record IsReportedLine (env : RunEnvironment) (r : Reached) (label : List ℕ) (number : ℕ) (report : List ℕ)
+pub record IsAnnouncingLine (env : RunEnvironment) (r : Reached) (label : List ℕ) (number : ℕ) (report : List ℕ)
     (new : Reached) : Type 0 where
   pub line : List ℕ
   pub stated : Says line (statement verb.Told (Text label ∷ Number number ∷ []))
@@ -35,45 +35,45 @@ pub record TellApart (labels : List (List ℕ)) (label : List ℕ) (number : ℕ
   pub apart : (pair : Pair) → lists pair entries ≡ true → lists pair others ≡ false
 
 -- So do any two `told` lines of a watcher, whatever lines stand between them.
-abbrev pub NewsIsReportedOnce : Type 0
-NewsIsReportedOnce = (env : RunEnvironment) (lines reports : List (List ℕ)) (r : Reached)
+abbrev pub NewsIsAnnouncedOnce : Type 0
+NewsIsAnnouncedOnce = (env : RunEnvironment) (lines reports : List (List ℕ)) (r : Reached)
     → AreTakenFirst env lines reports r → (label : List ℕ) (number : ℕ) (first : List ℕ) (new : Reached)
-    → IsReportedLine env r label number first new → (between reported : List (List ℕ)) (here : Reached)
-    → LinesAreTaken env new between reported here → (later : List ℕ) (last : Reached)
-    → IsReportedLine env here label number later last → TellApart (labels_at r) label number first later
+    → IsAnnouncingLine env r label number first new → (between printed : List (List ℕ)) (here : Reached)
+    → LinesAreTaken env new between printed here → (later : List ℕ) (last : Reached)
+    → IsAnnouncingLine env here label number later last → TellApart (labels_at r) label number first later
 
 -- A `told` line of a member's watcher, which is this one then.
-pub record IsReportedTo (env : RunEnvironment) (r : Reached) (m number : ℕ) (watching : Watching) (report : List ℕ)
+pub record IsAnnouncedTo (env : RunEnvironment) (r : Reached) (m number : ℕ) (watching : Watching) (report : List ℕ)
     (new : Reached) : Type 0 where
   pub label : List ℕ
-  pub line : IsReportedLine env r label number report new
+  pub line : IsAnnouncingLine env r label number report new
   pub there : m < length (labels_at r)
   pub named : label_at (labels_at r) m ≡ label
   pub watcher : watch_of number (watchers_at r.state m) ≡ Some watching
 
 -- The watcher of a member was given the publication, or counts it as reported.
-abbrev pub IsAmongReported : Reached → ℕ → ℕ → Pair → Type 0
-IsAmongReported r m number pair = was_reported (watch_of number (watchers_at r.state m)) pair ≡ true
+abbrev pub IsAmongAnnounced : Reached → ℕ → ℕ → Pair → Type 0
+IsAmongAnnounced r m number pair = was_announced (watch_of number (watchers_at r.state m)) pair ≡ true
 
 -- After a `told` line everything in the member's catalogue that the watcher asks for is reported, and stays so.
-abbrev pub NewsIsReportedWhole : Type 0
-NewsIsReportedWhole = (env : RunEnvironment) (lines reports : List (List ℕ)) (r : Reached)
+abbrev pub NewsIsAnnouncedWhole : Type 0
+NewsIsAnnouncedWhole = (env : RunEnvironment) (lines reports : List (List ℕ)) (r : Reached)
     → AreTakenFirst env lines reports r → (m number : ℕ) (watching : Watching) (report : List ℕ) (new : Reached)
-    → IsReportedTo env r m number watching report new
+    → IsAnnouncedTo env r m number watching report new
     → (pair : Pair) → lists pair (filter (is_for watching.pattern) (catalogue_at (group_at env r) m)) ≡ true
-    → (others reported : List (List ℕ)) (last : Reached) → LinesAreTaken env new others reported last
-    → IsAmongReported last m number pair
+    → (others printed : List (List ℕ)) (last : Reached) → LinesAreTaken env new others printed last
+    → IsAmongAnnounced last m number pair
 
 -- So where a `told` line stands right after a `settle` line, and no line can have deleted anything, everything in the
 -- join of all publications that the watcher asks for is reported.
-abbrev pub SettledAreReported : Type 0
-SettledAreReported = (env : RunEnvironment) (before : List (List ℕ)) (settle : List ℕ) (workers : ℕ)
+abbrev pub SettledAreAnnounced : Type 0
+SettledAreAnnounced = (env : RunEnvironment) (before : List (List ℕ)) (settle : List ℕ) (workers : ℕ)
     (between reports : List (List ℕ)) (r : Reached)
     → AreTakenFirst env (before ++ settle ∷ between) reports r
     → list_all (λ line. deletes_nothing (line_of line)) before ≡ true
     → Says settle (statement verb.Settle (Number workers ∷ []))
     → list_all (λ line. changes_nothing (line_of line)) between ≡ true
     → (m number : ℕ) (watching : Watching) (report : List ℕ) (new : Reached)
-    → IsReportedTo env r m number watching report new
+    → IsAnnouncedTo env r m number watching report new
     → (pair : Pair) → lists pair (filter (is_for watching.pattern) (join_of (logs (group_at env r)))) ≡ true
-    → IsAmongReported new m number pair
+    → IsAmongAnnounced new m number pair

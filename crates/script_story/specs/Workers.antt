@@ -8,8 +8,8 @@ use Rattle.script_lang.specs.Kinds.{Value, Text, Number}
 use Rattle.script_lang.specs.Forms.{Stated, statement}
 use Rattle.script_lang.specs.Lines.{line_of}
 use Rattle.repo_io.specs.Lines.{lines}
-use Rattle.script_story.specs.Judging.{RunEnvironment}
-use Rattle.script_story.specs.Story.{story_of}
+use Rattle.script_story.specs.Evaluation.{RunEnvironment}
+use Rattle.script_story.specs.ScriptRun.{run_of}
 
 -- The values of a line, with one worker in place of so many.
 abbrev pub with_one_worker : Verb → List Value → List Value
@@ -34,4 +34,4 @@ DifferInWorkers a b = map (λ line. but_for_workers (line_of line)) a ≡ map (�
 -- text, end and group.
 abbrev pub WorkersMakeNoDifference : Type 0
 WorkersMakeNoDifference = (env : RunEnvironment) (a b : List ℕ) → length a ≤ script_octets → length b ≤ script_octets
-    → DifferInWorkers (lines a) (lines b) → story_of env a ≡ story_of env b
+    → DifferInWorkers (lines a) (lines b) → run_of env a ≡ run_of env b

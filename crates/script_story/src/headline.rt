@@ -1,26 +1,26 @@
 ghost use Rattle.std.specs.Prelude.{ℕ, List};
-ghost use Rattle.script_story.specs.Headline.{BeginsWithReports, EachIsTaken, HidesByDeletionAlone, IsToldBy};
+ghost use Rattle.script_story.specs.Headline.{BeginsWithReports, EachIsTaken, HidesByDeletionAlone, IsReportOf};
 ghost use Rattle.script_story.specs.Headline.{PrintsCatalogues, PrintsLater, ReachSoundGroups, SettlesJoin};
 ghost use Rattle.script_story.specs.Headline.{ReportChangesNothing};
 ghost use Rattle.script_story.specs.HeldPackets.{EntriesTellOfDumped, MembersHoldChecked};
-ghost use Rattle.script_story.specs.Judging.{RunEnvironment};
+ghost use Rattle.script_story.specs.Evaluation.{RunEnvironment};
 ghost use Rattle.script_report.specs.Labels.{MembersHaveLabels};
 ghost use Rattle.repo_io.specs.Lines.{lines};
 ghost use Rattle.script_story.specs.Listings.{ListedStay, SettledListWhatIsHeld, SettledListWhatIsLeft};
 ghost use Rattle.script_story.specs.Listings.{InformedMembersJoin};
 ghost use Rattle.script_story.specs.ShownCatalogues.{CatalogueLinesShow, SettleLinesShow};
-ghost use Rattle.script_story.specs.Story.{nothing_reached, story_of};
-ghost use Rattle.script_story.specs.InformedMembers.{ReportsTellOfMembers};
+ghost use Rattle.script_story.specs.ScriptRun.{nothing_reached, run_of};
+ghost use Rattle.script_story.specs.InformedMembers.{ReportsNameOnlyMembers};
 ghost use Rattle.script_story.specs.MirrorLaws.{MirrorsAreListed, MirrorsListTheirJoin};
-ghost use Rattle.script_story.specs.Watchers.{SettledAreReported, NewsIsReportedWhole, NewsIsReportedOnce};
+ghost use Rattle.script_story.specs.Watchers.{SettledAreAnnounced, NewsIsAnnouncedWhole, NewsIsAnnouncedOnce};
 ghost use Rattle.script_story.specs.Workers.{WorkersMakeNoDifference};
 
 /// The story of an input is known by its lines: the first of them are taken one after the other, their reports are its
 /// text, and the next line, if there is one, is refused or foreign. Each line that is taken has its report at its
 /// place. However the script goes on after lines that are taken, its story begins with their reports.
-pub fn stories_are_their_lines()
-    ensures reported { (env : RunEnvironment) (input : List ℕ)
-        → IsToldBy env nothing_reached (lines input) (story_of env input) }
+pub fn runs_are_their_lines()
+    ensures printed { (env : RunEnvironment) (input : List ℕ)
+        → IsReportOf env nothing_reached (lines input) (run_of env input) }
     ensures each { EachIsTaken }
     ensures begins { BeginsWithReports }
 {}
@@ -44,7 +44,7 @@ pub fn printed_catalogues_list_what_is_held()
 /// In every story each number of a member that a report is made of is that of a member that a line declared, whose
 /// label is printed.
 pub fn printed_labels_are_declared()
-    ensures reports { ReportsTellOfMembers }
+    ensures reports { ReportsNameOnlyMembers }
     ensures labels { MembersHaveLabels }
 {}
 
@@ -102,16 +102,16 @@ pub fn catalogue_lines_show_what_is_held()
 
 /// In every story no two `told` lines of a watcher report one publication, whatever lines stand between them: also
 /// restarts, deletions and withdrawals.
-pub fn news_is_reported_once()
-    ensures { NewsIsReportedOnce }
+pub fn news_is_announced_once()
+    ensures { NewsIsAnnouncedOnce }
 {}
 
 /// In every story a `told` line leaves nothing untold of what the member lists and the watcher asks for, and it stays
 /// reported. Right after a `settle` line, where no line was taken that can delete, that is everything that the watcher
 /// asks for in the join of all publications, less what was withdrawn.
-pub fn news_is_reported_whole()
-    ensures all { NewsIsReportedWhole }
-    ensures settled { SettledAreReported }
+pub fn news_is_announced_whole()
+    ensures all { NewsIsAnnouncedWhole }
+    ensures settled { SettledAreAnnounced }
 {}
 
 /// Two inputs that are read as the same lines, but for how many workers their `fetch`, `mfetch` and `settle` lines ask

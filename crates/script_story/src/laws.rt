@@ -1,16 +1,16 @@
 ghost use Rattle.std.specs.Prelude.{[], ◌++◌, codes};
 ghost use Rattle.script_story.specs.declared.ending.Ending.TheVariants.{Done, Refused};
-ghost use Rattle.script_story.specs.Judging.{EachLineIsJudged, RunEnvironment, SyntaxIsOfTheGrammar};
-ghost use Rattle.script_story.specs.Story.{Reports};
+ghost use Rattle.script_story.specs.Evaluation.{EachLineIsEvaluated, RunEnvironment, SyntaxIsOfTheGrammar};
+ghost use Rattle.script_story.specs.ScriptRun.{Reports};
 
 /// Every line is judged, and refused as Syntax exactly where the grammar refuses it.
 pub fn syntax_is_of_the_grammar()
-    ensures judged { EachLineIsJudged }
+    ensures evaluated { EachLineIsEvaluated }
     ensures syntax { SyntaxIsOfTheGrammar }
 {}
 
 /// What small scripts report, worked out, whatever the draws and the network are.
-pub fn small_stories()
+pub fn small_runs()
     ensures nothing { (env : RunEnvironment) → Reports env [] [] Done }
     ensures no_group { (env : RunEnvironment)
         → Reports env (codes "settle 1\n") (codes "refused 1 9 NoGroup\n") (Refused 1 9) }
@@ -43,7 +43,7 @@ pub fn small_stories()
 {}
 
 /// One publication that reaches two catalogues, worked out.
-pub fn first_story()
+pub fn first_run()
     ensures { (env : RunEnvironment) → Reports env
         (codes "group /g\nmember alice /alice 6b31\nmember bob /bob 6b32\npublish alice /doc 10 text:abc\nsettle 2\n"
         ++ codes "catalogue alice\ncatalogue bob\ntraffic\n")

@@ -13,8 +13,8 @@ pub use headline::{
     a_settle_line_joins, catalogue_lines_show_what_is_held, entries_tell_what_dumps_show,
     held_parts_passed_their_checks, informed_members_join_without_a_settle,
     lines_reach_sound_groups, listed_objects_stay_listed, mirrors_list_what_they_ask_for,
-    news_is_reported_once, news_is_reported_whole, printed_catalogues_list_what_is_held,
-    printed_labels_are_declared, settled_catalogues_list_what_was_held, stories_are_their_lines,
+    news_is_announced_once, news_is_announced_whole, printed_catalogues_list_what_is_held,
+    printed_labels_are_declared, runs_are_their_lines, settled_catalogues_list_what_was_held,
     workers_make_no_difference,
 };
-pub use laws::{first_story, small_stories, syntax_is_of_the_grammar};
+pub use laws::{first_run, small_runs, syntax_is_of_the_grammar};

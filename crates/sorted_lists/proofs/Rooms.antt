@@ -3,7 +3,7 @@ use Rattle.std.proofs.Common.{◌≡◌, ◌≤◌, ◌<◌, ◌+◌, ◌-◌, �
 use Rattle.std.proofs.Common.{inl, inr, List, [], ◌∷◌, refl, Vec, length-set}
 use Rattle.std.specs.List.{insert, remove}
 use Rattle.std.proofs.lemmas.List.Edits.{length-insert, length-remove}
-use Rattle.sorted_lists.specs.BlockMap.{over, above_half, room, half, full, IsKept, AreBlocks}
+use Rattle.sorted_lists.specs.BlockMap.{over, above_half, room, half, full, StaysInSplit, AreBlocks}
 use Rattle.sorted_lists.proofs.Blocks.{filled_blocks}
 
 module _ {K V A : Type 0} where
@@ -29,7 +29,7 @@ module _ {K V A : Type 0} where
   -- a block that has come to be full is split
   pub over_split : (bs : List (Vec (K × V) A)) (i : ℕ) (b c d : Vec (K × V) A) → i < length bs
       → length (get_or bs i d).items + 1 ≡ full → length b.items + length c.items ≡ full
-      → IsKept (length bs) i (length b.items) → over (insert (set bs i b) (suc i) c) + half ≤ over bs + 1
+      → StaysInSplit (length bs) i (length b.items) → over (insert (set bs i b) (suc i) c) + half ≤ over bs + 1
   over_split [] i b c d l f s k = absurd (omega arith)
   over_split (x ∷ []) zero b c d l f s (inl h) = omega (arith, f, s, h)
   over_split (x ∷ []) zero b c d l f s (inr h) = omega (arith, f, s, h.0)
@@ -44,7 +44,8 @@ module _ {K V A : Type 0} where
         over_split (y ∷ bs) i b c d (omega arith) f s (after k),
       )
     where
-      after : IsKept (length (x ∷ y ∷ bs)) (suc i) (length b.items) → IsKept (length (y ∷ bs)) i (length b.items)
+      after : StaysInSplit (length (x ∷ y ∷ bs)) (suc i) (length b.items)
+          → StaysInSplit (length (y ∷ bs)) i (length b.items)
       after (inl h) = inl h
       after (inr h) = inr (h.0, omega (arith, h.1))
 

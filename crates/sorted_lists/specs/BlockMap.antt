@@ -19,8 +19,8 @@ half = 32
 
 -- how many entries of a full block stay when it is split, by the number of blocks and its place: half of them, or all
 -- but one where it is the last
-abbrev pub IsKept : ℕ → ℕ → ℕ → Type 0
-IsKept blocks place n = (n ≡ half) ⊎ ((n + 1 ≡ full) × (place + 1 ≡ blocks))
+abbrev pub StaysInSplit : ℕ → ℕ → ℕ → Type 0
+StaysInSplit blocks place n = (n ≡ half) ⊎ ((n + 1 ≡ full) × (place + 1 ≡ blocks))
 
 module _ {K V A : Type 0} where
   -- what blocks have, one after the other

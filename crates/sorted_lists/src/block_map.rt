@@ -1,7 +1,7 @@
 // Maps in blocks, in order of their keys, with room that is made beforehand.
 ghost use Rattle.std.specs.Prelude.{◌≡◌, ◌+◌, ◌*◌, ◌<◌, ◌≤◌, [], length, vec_len, OnOk};
 ghost use Rattle.sorted_lists.specs.SortedList.{with_value, without_key, last_up_to, first_from};
-ghost use Rattle.sorted_lists.specs.BlockMap.{IsMap, IsPlace, IsKept, above_half, entries, half, spare};
+ghost use Rattle.sorted_lists.specs.BlockMap.{IsMap, IsPlace, StaysInSplit, above_half, entries, half, spare};
 
 use crate::block;
 use std::alloc::{AllocError, Global};
@@ -193,7 +193,7 @@ impl<K: Ord + Copy, V: Copy> BlockMap<K, V> {
 // that came, so that keys that rise fill the blocks.
 fn kept_of<K: Ord + Copy, V: Copy>(blocks: &[Vec<(K, V)>], place: usize, key: K) -> usize
     requires { place < length blocks.now }
-    ensures { IsKept (length blocks.now) place result }
+    ensures { StaysInSplit (length blocks.now) place result }
 {
     match blocks[place].last() {
         Some((last, _)) if place + 1 == blocks.len() && last.cmp(&key).is_eq() => FULL - 1,

@@ -3,5 +3,5 @@ pub mod OctetLemmas
 pub mod NameLemmas
 pub mod LengthLemmas
 pub mod VerdictLemmas
-pub mod ReportedWidth
+pub mod ReceivedWidth
 pub mod RefusalLemmas

@@ -46,10 +46,10 @@ signed_err (Err ParamsDigest) = apart _ (λ e. absurd cc) (λ e. absurd cc)
 signed_err (Err UnknownKey) = apart _ (λ e. absurd cc) (λ e. absurd cc)
 signed_err (Err BadSignature) = apart _ (λ e. absurd cc) (λ e. absurd cc)
 
-reported_err : (r : Result (List ℕ) VectorFault) → IfErr r (λ fault. fault ≢ vector.NoMemory)
+received_err : (r : Result (List ℕ) VectorFault) → IfErr r (λ fault. fault ≢ vector.NoMemory)
     → IfErr (vector_or r) IsOfOctets
-reported_err (Ok v) h = tt
-reported_err (Err f) h = apart (Vector f) (λ e. absurd cc) (λ e. h cc)
+received_err (Ok v) h = tt
+received_err (Err f) h = apart (Vector f) (λ e. absurd cc) (λ e. h cc)
 
 module _ (group : List Component) (roster : List (List Component)) (ring : List NamedKey) where
   interest_err : (i : Interest) → IfErr (sync_interest_verdict group roster ring i) IsOfOctets
@@ -57,7 +57,7 @@ module _ (group : List Component) (roster : List (List Component)) (ring : List 
       then_err (ensured (is_sync_name group i.name) WrongGroup) _ (ensured_err (is_sync_name group i.name))
       (λ _. then_err (signed_or (signer_of ring i)) _ (signed_err (signer_of ring i)) (λ signer.
       then_err (vector_or (vector_of roster (unwrap_or i.parameters []))) (λ v. Ok (signer, v))
-      (reported_err (vector_of roster (unwrap_or i.parameters []))
+      (received_err (vector_of roster (unwrap_or i.parameters []))
       (faults_of_octets roster (unwrap_or i.parameters [])))
       (λ v. tt)))
 

@@ -3,7 +3,7 @@ use Rattle.std.specs.Prelude.{ℕ, List, Option, Some, None, length}
 use Rattle.svs_sync.specs.declared.mode.Mode.{Mode}
 use Rattle.svs_sync.specs.declared.mode.Mode.TheVariants.{Steady, Suppressed}
 use Rattle.svs_sync.specs.declared.machine.Machine.TheInside.{Inside}
-use Rattle.svs_sync.specs.KeptVector.{Keeper}
+use Rattle.svs_sync.specs.SyncStates.{SyncState}
 
 -- The vector means nothing while the member is Steady.
 abbrev pub heard_in : Mode → List ℕ → Option (List ℕ)
@@ -11,7 +11,7 @@ heard_in Steady vector = None
 heard_in Suppressed vector = Some vector
 
 -- What contracts see of the machine.
-abbrev pub keeper : Inside → Keeper
+abbrev pub keeper : Inside → SyncState
 keeper m =
     record {
       members = length m.heard;

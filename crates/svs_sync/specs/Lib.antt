@@ -7,6 +7,6 @@ pub use Rattle.svs_vector.specs.Rosters
 pub use Rattle.svs_vector.specs.StateVector
 pub use Rattle.svs_vector.specs.WrittenVector
 pub mod Suppression
-pub mod KeptVector
+pub mod SyncStates
 pub mod Fields
 pub mod SyncInterest

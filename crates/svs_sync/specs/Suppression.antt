@@ -18,7 +18,7 @@ suppression draw = draw % 201
 -- What happens to a member. Each comes with the draw that is next, whether it is used or not.
 pub data SyncEvent : Type 0 where
   published : (now draw : ℕ) → SyncEvent
-  heard : (now : ℕ) (reported known : List ℕ) (draw : ℕ) → SyncEvent
+  heard : (now : ℕ) (received known : List ℕ) (draw : ℕ) → SyncEvent
   fired : (now : ℕ) (known : List ℕ) (draw : ℕ) → SyncEvent
   reset : (now draw : ℕ) → SyncEvent
 
@@ -36,10 +36,10 @@ steady now draw m = record { heard = None; deadline = now + periodic draw; draws
 -- A vector is heard. A Steady member stays so where the vector covers the one that is known before, and is Suppressed
 -- where it doesn't. A Suppressed one adds it to those heard, uses no draw, and keeps its deadline.
 abbrev pub hears : ℕ → List ℕ → List ℕ → ℕ → SyncMember → Option (List (List ℕ)) → SyncMember
-hears now reported known draw m None =
-    if covers reported known then steady now draw m
-    else record { heard = Some (reported ∷ []); deadline = now + suppression draw; draws = m.draws + 1 }
-hears now reported known draw m (Some vectors) = record m { heard = Some (vectors ++ reported ∷ []) }
+hears now received known draw m None =
+    if covers received known then steady now draw m
+    else record { heard = Some (received ∷ []); deadline = now + suppression draw; draws = m.draws + 1 }
+hears now received known draw m (Some vectors) = record m { heard = Some (vectors ++ received ∷ []) }
 
 -- What a member does that is due: it sends, but is quiet where it is Suppressed and those heard together cover the
 -- vector that is known now.
@@ -54,7 +54,7 @@ fires now known m = if nat_lt now m.deadline then Early else due known m.heard
 -- The member after each event.
 unfoldable pub after_sync_event : SyncEvent → SyncMember → SyncMember
 after_sync_event (published now draw) m = steady now draw m
-after_sync_event (heard now reported known draw) m = hears now reported known draw m m.heard
+after_sync_event (heard now received known draw) m = hears now received known draw m m.heard
 after_sync_event (fired now known draw) m = if nat_lt now m.deadline then m else steady now draw m
 after_sync_event (reset now draw) m = steady now draw m
 

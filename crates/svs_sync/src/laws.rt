@@ -9,15 +9,15 @@ ghost use Rattle.svs_sync.specs.SyncInterest.{sync_interest, sync_verdict, is_sy
 ghost use Rattle.svs_sync.specs.declared.sync_refusal.SyncRefusal.TheVariants.{NoMemory, Vector};
 ghost use Rattle.svs_vector.specs.declared.vector_fault.VectorFault.TheVariants as vector;
 ghost use Rattle.std.specs.Prelude.{◌≢◌, IfErr};
-ghost use Rattle.svs_sync.specs.KeptVector.{kept, after_all_kept, fires_kept};
+ghost use Rattle.svs_sync.specs.SyncStates.{kept, after_events_joined, fires_joined};
 
 /// After any list of events, what is kept is what the table says over the list of vectors heard since the member was
 /// last Steady, with their join for the list.
 pub fn what_is_kept_is_the_join()
     ensures after { (members : ℕ) (events : List SyncEvent) (m : SyncMember)
-        → after_all_kept events (kept members m) ≡ kept members (after_sync_events events m) }
+        → after_events_joined events (kept members m) ≡ kept members (after_sync_events events m) }
     ensures fires { (members now : ℕ) (known : List ℕ) (m : SyncMember)
-        → fires_kept now known (kept members m) ≡ fires now known m }
+        → fires_joined now known (kept members m) ≡ fires now known m }
     ensures mode { (members : ℕ) (m : SyncMember) → mode_of (kept members m).heard ≡ mode_of m.heard }
 {}
 
@@ -46,10 +46,10 @@ pub fn sync_interests_are_tested()
 {}
 
 /// The vector that a sync Interest tells has a number for each member.
-pub fn reported_vectors_have_all_members()
+pub fn received_vectors_have_all_members()
     ensures { (group : List Component) (roster : List (List Component)) (ring : List NamedKey)
-        (octets : List ℕ) (reported : ℕ × List ℕ)
-        → sync_verdict group roster ring octets ≡ Ok reported → length reported.1 ≡ length roster }
+        (octets : List ℕ) (received : ℕ × List ℕ)
+        → sync_verdict group roster ring octets ≡ Ok received → length received.1 ≡ length roster }
 {}
 
 /// The refusal of octets follows from the octets, and is never out of memory, nor is the fault of their vector.

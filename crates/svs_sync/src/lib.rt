@@ -14,10 +14,10 @@ mod sync_refusal;
 
 pub use fired::Fired;
 pub use laws::{
-    made_sync_interests_are_checked, reported_vectors_have_all_members, sync_interests_are_tested,
+    made_sync_interests_are_checked, received_vectors_have_all_members, sync_interests_are_tested,
     sync_refusals_are_of_the_octets, what_is_kept_is_the_join,
 };
 pub use machine::Machine;
 pub use mode::Mode;
-pub use sync_interest::{check_reported, check_sync, make_sync};
+pub use sync_interest::{check_numbers, check_sync, make_sync};
 pub use sync_refusal::SyncRefusal;

@@ -1,6 +1,6 @@
 ghost use Rattle.std.specs.Prelude.{◌≡◌, ◌+◌, ◌^◌, ◌<◌, None, length, IfOk};
 ghost use Rattle.svs_sync.specs.Suppression.{mode_of, periodic, suppression};
-ghost use Rattle.svs_sync.specs.KeptVector.{steady_kept, hears_kept, fires_kept, fired_kept};
+ghost use Rattle.svs_sync.specs.SyncStates.{steady_joined, hears_joined, fires_joined, fired_joined};
 
 use crate::fired::Fired;
 use crate::mode::Mode;
@@ -23,9 +23,9 @@ pub struct Machine {
 
 // A machine is seen as what it keeps of its member.
 impl Model for Machine {
-    ghost use Rattle.svs_sync.specs.KeptVector.{Keeper};
+    ghost use Rattle.svs_sync.specs.SyncStates.{SyncState};
 
-    ghost Value = { Keeper };
+    ghost Value = { SyncState };
 
     ghost use Rattle.svs_sync.specs.Fields.{keeper};
 
@@ -55,7 +55,7 @@ impl Machine {
     pub fn published(&mut self, now: u64, draw: u32)
         requires early { now < 2 ^ 62 }
         requires few { self.old.draws < 2 ^ 62 }
-        ensures { self.new ≡ steady_kept now draw self.old }
+        ensures { self.new ≡ steady_joined now draw self.old }
     {
         self.settle(now, draw);
     }
@@ -64,28 +64,28 @@ impl Machine {
     pub fn reset(&mut self, now: u64, draw: u32)
         requires early { now < 2 ^ 62 }
         requires few { self.old.draws < 2 ^ 62 }
-        ensures { self.new ≡ steady_kept now draw self.old }
+        ensures { self.new ≡ steady_joined now draw self.old }
     {
         self.settle(now, draw);
     }
 
     /// The member was informed of a vector, while `known` was the one that it knew.
-    pub fn heard(&mut self, now: u64, reported: &Vector, known: &Vector, draw: u32) -> Mode
+    pub fn heard(&mut self, now: u64, received: &Vector, known: &Vector, draw: u32) -> Mode
         requires early { now < 2 ^ 62 }
         requires few { self.old.draws < 2 ^ 62 }
-        requires reported { length reported.now ≡ self.old.members }
+        requires received { length received.now ≡ self.old.members }
         requires known { length known.now ≡ self.old.members }
-        ensures kept { self.new ≡ hears_kept now reported.now known.now draw self.old self.old.heard }
+        ensures kept { self.new ≡ hears_joined now received.now known.now draw self.old self.old.heard }
         ensures mode { result ≡ mode_of self.new.heard }
     {
         match self.mode {
             Mode::Suppressed => {
-                self.heard.join(reported);
+                self.heard.join(received);
             }
-            Mode::Steady if reported.covers(known) => self.settle(now, draw),
+            Mode::Steady if received.covers(known) => self.settle(now, draw),
             Mode::Steady => {
                 self.mode = Mode::Suppressed;
-                self.heard.copy_from(reported);
+                self.heard.copy_from(received);
                 self.deadline = now + suppression(draw);
                 self.draws += 1;
             }
@@ -98,8 +98,8 @@ impl Machine {
         requires early { now < 2 ^ 62 }
         requires few { self.old.draws < 2 ^ 62 }
         requires known { length known.now ≡ self.old.members }
-        ensures fired { result ≡ fires_kept now known.now self.old }
-        ensures kept { self.new ≡ fired_kept now draw self.old }
+        ensures fired { result ≡ fires_joined now known.now self.old }
+        ensures kept { self.new ≡ fired_joined now draw self.old }
     {
         let fired = self.fires(now, known);
         if now >= self.deadline {
@@ -111,7 +111,7 @@ impl Machine {
     /// What the member would do now, as `fired` tells. Nothing is done.
     pub fn fires(&self, now: u64, known: &Vector) -> Fired
         requires { length known.now ≡ self.now.members }
-        ensures { result ≡ fires_kept now known.now self.now }
+        ensures { result ≡ fires_joined now known.now self.now }
     {
         if now < self.deadline {
             return Fired::Early;
@@ -147,7 +147,7 @@ impl Machine {
     fn settle(&mut self, now: u64, draw: u32)
         requires early { now < 2 ^ 62 }
         requires few { self.old.draws < 2 ^ 62 }
-        ensures { self.new ≡ steady_kept now draw self.old }
+        ensures { self.new ≡ steady_joined now draw self.old }
     {
         self.mode = Mode::Steady;
         self.deadline = now + periodic(draw);

@@ -10,7 +10,7 @@ use ndn_name::{Name, NameFault, NameView, PacketWriteFault};
 use ndn_sign::KeyRing;
 use ndn_tlv::types;
 use std::alloc::{AllocError, Global};
-use svs_vector::{ReportedNumbers, Roster, Vector};
+use svs_vector::{Roster, Vector, VectorNumbers};
 
 // What stands after the group's name in that of its sync Interests: the component of version 2,
 // and the head of the parameters digest's component.
@@ -61,7 +61,7 @@ fn sync_name(alloc: Global, group: &Name) -> Result<Name, AllocError>
 /// Checks the octets of a sync Interest of the group, and gives the number of the key in the ring
 /// that signed it, and the vector that it tells.
 ///
-/// Only the vector takes memory, and that comes last: it is checked as [`check_reported`] checks it.
+/// Only the vector takes memory, and that comes last: it is checked as [`check_numbers`] checks it.
 pub fn check_sync(
     alloc: Global,
     octets: &[u8],
@@ -70,16 +70,16 @@ pub fn check_sync(
     ring: &KeyRing,
 ) -> Result<(u32, Vector), SyncRefusal>
     ensures verdict { MatchResult result
-        (λ reported. sync_verdict group.now roster.now ring.now octets.now ≡ Ok (reported.0, reported.1))
+        (λ received. sync_verdict group.now roster.now ring.now octets.now ≡ Ok (received.0, received.1))
         (λ refusal. (sync_verdict group.now roster.now ring.now octets.now ≡ Err refusal)
         ⊎ (refusal ≡ SyncRefusal.NoMemory)) }
     ensures memory { result ≡ Err SyncRefusal.NoMemory
         → IsOk (sync_verdict group.now roster.now ring.now octets.now) }
     ensures vector { result ≢ Err (SyncRefusal.Vector fault.NoMemory) }
-    ensures width { IfOk result (λ reported. length reported.1 ≡ length roster.now) }
+    ensures width { IfOk result (λ received. length received.1 ≡ length roster.now) }
 {
-    let (signer, reported) = check_reported(octets, group, roster, ring)?;
-    match reported.to_vector(alloc) {
+    let (signer, received) = check_numbers(octets, group, roster, ring)?;
+    match received.to_vector(alloc) {
         Ok(vector) => Ok((signer, vector)),
         Err(_) => Err(SyncRefusal::NoMemory),
     }
@@ -90,24 +90,24 @@ pub fn check_sync(
 ///
 /// The signer is known by its key alone, whatever the numbers tell. What follows the state vector
 /// in the parameters is passed over.
-pub fn check_reported(
+pub fn check_numbers(
     octets: &[u8],
     group: &Name,
     roster: &Roster,
     ring: &KeyRing,
-) -> Result<(u32, ReportedNumbers), SyncRefusal>
+) -> Result<(u32, VectorNumbers), SyncRefusal>
     ensures verdict { MatchResult result
-        (λ reported. sync_verdict group.now roster.now ring.now octets.now ≡ Ok (reported.0, reported.1))
+        (λ received. sync_verdict group.now roster.now ring.now octets.now ≡ Ok (received.0, received.1))
         (λ refusal. sync_verdict group.now roster.now ring.now octets.now ≡ Err refusal) }
-    ensures width { IfOk result (λ reported. length reported.1 ≡ length roster.now) }
+    ensures width { IfOk result (λ received. length received.1 ≡ length roster.now) }
 {
     let interest = InterestView::read(octets)?;
     if !is_sync_name(&interest.name, group) {
         return Err(SyncRefusal::WrongGroup);
     }
     let signer = signer_of(&interest, ring)?;
-    match ReportedNumbers::read(interest.parameters.unwrap_or(&[]), roster) {
-        Ok(reported) => Ok((signer, reported)),
+    match VectorNumbers::read(interest.parameters.unwrap_or(&[]), roster) {
+        Ok(received) => Ok((signer, received)),
         Err(fault) => Err(SyncRefusal::Vector(fault)),
     }
 }

@@ -131,11 +131,11 @@ pub fold_join_same : (v : List ℕ) (us ws : List (List ℕ)) → HaveSameVector
 fold_join_same v us ws same = fold_join v us ∙ (ap (join v) (join_all_same us ws same) ∙ sym (fold_join v ws))
 
 -- a change is reported of exactly where there is one
-pub reported_of_changes : (changed : Bool) (v w new : List ℕ) → changed ≡ not (covers v w) → new ≡ join v w
+pub received_of_changes : (changed : Bool) (v w new : List ℕ) → changed ≡ not (covers v w) → new ≡ join v w
     → IsFalse changed ↔ (new ≡ v)
-reported_of_changes changed v w new reported joined = (
-  λ none. joined ∙ covers_Covers v w (covered (covers v w) (sym reported ∙ none)),
-  λ same. reported ∙ ap not (Covers_covers v w (sym joined ∙ same)),
+received_of_changes changed v w new received joined = (
+  λ none. joined ∙ covers_Covers v w (covered (covers v w) (sym received ∙ none)),
+  λ same. received ∙ ap not (Covers_covers v w (sym joined ∙ same)),
 ) where
   covered : (b : Bool) → not b ≡ false → b ≡ true
   covered true e = refl

@@ -33,14 +33,14 @@ use Rattle.svs_vector.specs.Rosters.{has_same_octets, member_of, IsOwnName, IsRo
 use Rattle.svs_vector.specs.StateVector.{Entry, EntrySoFar, entry_name, good_number, with_entry_field, entry_fields}
 use Rattle.svs_vector.specs.StateVector.{entry_in, both, fault_in, counted, with_vector_entry, vector_in, vector_among}
 use Rattle.svs_vector.specs.StateVector.{vector_of}
-use Rattle.svs_vector.specs.ReportedVector.{number_reported, greatest_reported, vector_reported, HaveSameEntries}
+use Rattle.svs_vector.specs.EntriesVector.{number_in_entry, greatest_number, vector_of_entries, HaveSameEntries}
 use Rattle.svs_vector.specs.WrittenVector.{in_canonical_order, known_entries, entry_value, written_entry}
 use Rattle.svs_vector.specs.WrittenVector.{written_vector}
 use Rattle.svs_vector.proofs.JoinLemmas.{join_assoc, join_zeros}
 use Rattle.svs_vector.proofs.OrderLemmas.{names_in_order, numbers_in_order, names_known, numbers_known}
 use Rattle.svs_vector.proofs.LengthLemmas.{value_short, body_short, IsWithin}
 use Rattle.svs_vector.proofs.SortedLemmas.{known_in_order, other_way}
-use Rattle.svs_vector.proofs.ReportedLemmas.{reported_by, reported_more, reported_none, Counts, stranger_counts}
+use Rattle.svs_vector.proofs.ReportedLemmas.{numbers_of_entry, reported_more, reported_none, Counts, stranger_counts}
 use Rattle.svs_vector.proofs.ReportedLemmas.{member_counts}
 use Rattle.svs_vector.proofs.ReportedLemmas.{join_zeros_after}
 
@@ -153,47 +153,47 @@ module _ (roster : List (List Component)) (are : IsRoster roster) where
   raised_counts v e None long found = stranger_counts roster are v e long found
   raised_counts v e (Some m) long found = member_counts roster are v e m long found
 
-  taken_reported : (v : List ℕ) (es : List Entry) → length v ≡ length roster
-      → taken roster v es ≡ join v (vector_reported roster es)
-  taken_reported v [] long =
+  taken_received : (v : List ℕ) (es : List Entry) → length v ≡ length roster
+      → taken roster v es ≡ join v (vector_of_entries roster es)
+  taken_received v [] long =
       sym (ap (join v) (reported_none roster) ∙ join_zeros_after v (length roster) (omega (arith, long)))
-  taken_reported v (e ∷ es) long =
+  taken_received v (e ∷ es) long =
       let here = raised_counts v e (member_of e.0 roster) long refl in
-      taken_reported (raised v e.1 (member_of e.0 roster)) es here.long
-      ∙ ap (λ (l : List ℕ). join l (vector_reported roster es)) here.joined
-      ∙ join_assoc v (reported_by roster e) (vector_reported roster es)
+      taken_received (raised v e.1 (member_of e.0 roster)) es here.long
+      ∙ ap (λ (l : List ℕ). join l (vector_of_entries roster es)) here.joined
+      ∙ join_assoc v (numbers_of_entry roster e) (vector_of_entries roster es)
       ∙ ap (join v) (reported_more roster e es)
 
 -- ---- what the known entries tell
 
-stranger_reported : (name : List Component) (es : List Entry)
-    → All (λ other. has_same_octets other name ≡ false) (keys_of es) → greatest_reported name es ≡ 0
-stranger_reported name [] h = refl
-stranger_reported name (e ∷ es) h =
+stranger_received : (name : List Component) (es : List Entry)
+    → All (λ other. has_same_octets other name ≡ false) (keys_of es) → greatest_number name es ≡ 0
+stranger_received name [] h = refl
+stranger_received name (e ∷ es) h =
     let P : List Component → Type 0 = λ other. has_same_octets other name ≡ false in
-    rw (All-head P e.0 (keys_of es) h, stranger_reported name es (All-tail P e.0 (keys_of es) h)) refl
+    rw (All-head P e.0 (keys_of es) h, stranger_received name es (All-tail P e.0 (keys_of es) h)) refl
 
-first_reported : (b : Bool) (name : List Component) (n : ℕ) (es : List Entry) → eqb n 0 ≡ b → greatest_reported name es
+first_reported : (b : Bool) (name : List Component) (n : ℕ) (es : List Entry) → eqb n 0 ≡ b → greatest_number name es
     ≡ 0
-    → greatest_reported name (cond (not b) ((name, n) ∷ es) es) ≡ n
+    → greatest_number name (cond (not b) ((name, n) ∷ es) es) ≡ n
 first_reported true name n es spent none = none ∙ sym (eqb-true n 0 spent)
 first_reported false name n es some none =
     let same : has_same_octets name name ≡ true = (bytes_eq-Decides (encoding name) (encoding name)).1 refl in
     let most : max n 0 ≡ n = omega arith in
     rw (same, none) most
 
-other_reported : (b : Bool) (other name : List Component) (n : ℕ) (es : List Entry) → has_same_octets name other ≡ false
-    → greatest_reported other (cond b ((name, n) ∷ es) es) ≡ greatest_reported other es
-other_reported true other name n es apart =
-    let most : max 0 (greatest_reported other es) ≡ greatest_reported other es = omega arith in rw apart most
-other_reported false other name n es apart = refl
+other_received : (b : Bool) (other name : List Component) (n : ℕ) (es : List Entry) → has_same_octets name other ≡ false
+    → greatest_number other (cond b ((name, n) ∷ es) es) ≡ greatest_number other es
+other_received true other name n es apart =
+    let most : max 0 (greatest_number other es) ≡ greatest_number other es = omega arith in rw apart most
+other_received false other name n es apart = refl
 
-others_reported : (b : Bool) (names : List (List Component)) (name : List Component) (n : ℕ) (es : List Entry)
+others_received : (b : Bool) (names : List (List Component)) (name : List Component) (n : ℕ) (es : List Entry)
     → AllByRecursion (λ other. has_same_octets name other ≡ false) names
-    → vector_reported names (cond b ((name, n) ∷ es) es) ≡ vector_reported names es
-others_reported b [] name n es apart = refl
-others_reported b (other ∷ names) name n es apart =
-    let h = other_reported b other name n es apart.0 in let t = others_reported b names name n es apart.1 in cc
+    → vector_of_entries names (cond b ((name, n) ∷ es) es) ≡ vector_of_entries names es
+others_received b [] name n es apart = refl
+others_received b (other ∷ names) name n es apart =
+    let h = other_received b other name n es apart.0 in let t = others_received b names name n es apart.1 in cc
 
 names_apart : (name : List Component) (names : List (List Component))
     → AllByRecursion (λ other. has_same_octets name other ≡ false) names
@@ -201,67 +201,67 @@ names_apart : (name : List Component) (names : List (List Component))
 names_apart name [] apart = apart
 names_apart name (other ∷ names) apart = (other_way name other apart.0, names_apart name names apart.1)
 
-known_reported : (names : List (List Component)) (ns : List ℕ) → IsDistinct has_same_octets names → length ns
+known_received : (names : List (List Component)) (ns : List ℕ) → IsDistinct has_same_octets names → length ns
     ≡ length names
-    → vector_reported names (known_entries names ns) ≡ ns
+    → vector_of_entries names (known_entries names ns) ≡ ns
 unfolding IsDistinct
-known_reported [] [] apart long = refl
-known_reported [] (n ∷ ns) apart long = absurd (omega arith)
-known_reported (name ∷ names) [] apart long = absurd (omega arith)
-known_reported (name ∷ names) (n ∷ ns) apart long =
+known_received [] [] apart long = refl
+known_received [] (n ∷ ns) apart long = absurd (omega arith)
+known_received (name ∷ names) [] apart long = absurd (omega arith)
+known_received (name ∷ names) (n ∷ ns) apart long =
     let P : List Component → Type 0 = λ other. has_same_octets other name ≡ false in
     let es = known_entries names ns in
     let none =
-    stranger_reported name es (names_known P names ns (All-from_recursion P names (names_apart name names apart.0))) in
+    stranger_received name es (names_known P names ns (All-from_recursion P names (names_apart name names apart.0))) in
     let here = first_reported (eqb n 0) name n es refl none in
-    let others = others_reported (not (eqb n 0)) names name n es apart.0 in
-    let rest = known_reported names ns apart.1 (omega (arith, long)) in
+    let others = others_received (not (eqb n 0)) names name n es apart.0 in
+    let rest = known_received names ns apart.1 (omega (arith, long)) in
     cc
 
 -- ---- entries in any order
 
-reported_most : (name : List Component) (es : List Entry) (k : ℕ) (e : Entry) → k < length es → get_or es k e ≡ e
-    → number_reported name e ≤ greatest_reported name es
-reported_most name [] k e h is = absurd (omega arith)
-reported_most name (x ∷ es) zero e h is = rw (← is) (omega arith)
-reported_most name (x ∷ es) (suc k) e h is = omega (arith, reported_most name es k e (omega (arith, h)) is)
+received_most : (name : List Component) (es : List Entry) (k : ℕ) (e : Entry) → k < length es → get_or es k e ≡ e
+    → number_in_entry name e ≤ greatest_number name es
+received_most name [] k e h is = absurd (omega arith)
+received_most name (x ∷ es) zero e h is = rw (← is) (omega arith)
+received_most name (x ∷ es) (suc k) e h is = omega (arith, received_most name es k e (omega (arith, h)) is)
 
-reported_least : (name : List Component) (es : List Entry) (n : ℕ)
-    → ((e : Entry) → Contains es e → number_reported name e ≤ n)
-    → greatest_reported name es ≤ n
-reported_least name [] n each = omega arith
-reported_least name (x ∷ es) n each =
+received_least : (name : List Component) (es : List Entry) (n : ℕ)
+    → ((e : Entry) → Contains es e → number_in_entry name e ≤ n)
+    → greatest_number name es ≤ n
+received_least name [] n each = omega arith
+received_least name (x ∷ es) n each =
     let here = each x (0, omega arith, refl) in
-    let rest = reported_least name es n (λ e c. each e
+    let rest = received_least name es n (λ e c. each e
     (suc c.0, (let l : c.0 < length es = c.1 in omega arith), c.2)) in
     omega (arith, here, rest)
 
-reported_below : (name : List Component) (a b : List Entry) → ((e : Entry) → Contains a e → Contains b e)
-    → greatest_reported name a ≤ greatest_reported name b
-reported_below name a b within =
-    reported_least name a (greatest_reported name b) (λ e c. let d = within e c in reported_most name b d.0 e d.1 d.2)
+received_below : (name : List Component) (a b : List Entry) → ((e : Entry) → Contains a e → Contains b e)
+    → greatest_number name a ≤ greatest_number name b
+received_below name a b within =
+    received_least name a (greatest_number name b) (λ e c. let d = within e c in received_most name b d.0 e d.1 d.2)
 
 pub reported_same : (names : List (List Component)) (a b : List Entry) → HaveSameEntries a b
-    → vector_reported names a ≡ vector_reported names b
+    → vector_of_entries names a ≡ vector_of_entries names b
 reported_same [] a b same = refl
 reported_same (name ∷ names) a b same =
-    let up = reported_below name a b (λ e c. (same e).0 c) in
-    let down = reported_below name b a (λ e c. (same e).1 c) in
-    let here : greatest_reported name a ≡ greatest_reported name b = omega (arith, up, down) in
+    let up = received_below name a b (λ e c. (same e).0 c) in
+    let down = received_below name b a (λ e c. (same e).1 c) in
+    let here : greatest_number name a ≡ greatest_number name b = omega (arith, up, down) in
     let rest = reported_same names a b same in
     cc
 
 -- ---- the whole
 
 vector_again : (roster : List (List Component)) (vector : List ℕ) → IsRoster roster → length vector ≡ length roster
-    → vector_reported roster (in_canonical_order (known_entries roster vector)) ≡ vector
+    → vector_of_entries roster (in_canonical_order (known_entries roster vector)) ≡ vector
 vector_again roster vector are long =
     let known = known_entries roster vector in
     let es = in_canonical_order known in
     let moved = known_in_order roster vector are in
     reported_same roster es known
     (λ e. (Contains-permutation es known e (IsPermutation-sym known es moved), Contains-permutation known es e moved))
-    ∙ known_reported roster vector are.different long
+    ∙ known_received roster vector are.different long
 
 pub read_back : (roster : List (List Component)) (vector : List ℕ) → IsRoster roster → length vector ≡ length roster
     → All (λ n. n < 2 ^ 16) vector → vector_of roster (written_vector roster vector) ≡ Ok vector
@@ -279,8 +279,8 @@ read_back roster vector are long small =
     let zeros : List ℕ = replicate (length roster) 0 in
     let all : vector_in roster e ≡ Ok vector =
     entries_again roster (fault_in e) e.value_start zeros es names numbers
-    ∙ ap (λ (v : List ℕ). Ok v) (taken_reported roster are zeros es (length-replicate (length roster) 0)
-    ∙ join_zeros (length roster) (vector_reported roster es)
-    (omega (arith, length-map roster (λ name. greatest_reported name es)))
+    ∙ ap (λ (v : List ℕ). Ok v) (taken_received roster are zeros es (length-replicate (length roster) 0)
+    ∙ join_zeros (length roster) (vector_of_entries roster es)
+    (omega (arith, length-map roster (λ name. greatest_number name es)))
     ∙ vector_again roster vector are long) in
     ap (λ (l : Listing Item TlvFault). vector_among l.items >>= vector_in roster) read ∙ all

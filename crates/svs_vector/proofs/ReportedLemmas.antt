@@ -21,17 +21,17 @@ use Rattle.svs_vector.specs.Vectors.{join}
 use Rattle.svs_vector.specs.Rosters.{has_same_octets, member_of, IsRoster}
 use Rattle.svs_vector.specs.StateVector.{Entry, entry_in, fault_in, counted, with_vector_entry, vector_in, vector_among}
 use Rattle.svs_vector.specs.StateVector.{vector_of}
-use Rattle.svs_vector.specs.ReportedVector.{number_reported, greatest_reported, vector_reported, IsCounted, FieldsTell}
-use Rattle.svs_vector.specs.ReportedVector.{IsVector}
-use Rattle.svs_vector.specs.ReportedVector.{IsFault}
-use Rattle.svs_vector.specs.ReportedVector.FieldsTell.{ended, broken, no_entry, too_large, one, later}
+use Rattle.svs_vector.specs.EntriesVector.{number_in_entry, greatest_number, vector_of_entries, IsCounted, FieldsTell}
+use Rattle.svs_vector.specs.EntriesVector.{IsVector}
+use Rattle.svs_vector.specs.EntriesVector.{IsFault}
+use Rattle.svs_vector.specs.EntriesVector.FieldsTell.{ended, broken, no_entry, too_large, one, later}
 use Rattle.svs_vector.proofs.JoinLemmas.{join-[], join_assoc, join_zeros}
 
 -- ---- one entry
 
 -- what one entry says of the members
-abbrev pub reported_by : List (List Component) → Entry → List ℕ
-reported_by roster entry = map (λ name. number_reported name entry) roster
+abbrev pub numbers_of_entry : List (List Component) → Entry → List ℕ
+numbers_of_entry roster entry = map (λ name. number_in_entry name entry) roster
 
 abbrev Other : Entry → List (List Component) → Type 0
 Other entry names = AllByRecursion (λ name. has_same_octets entry.0 name ≡ false) names
@@ -44,7 +44,7 @@ join_zeros_after (k ∷ v) (suc n) h =
     let e : max k 0 ≡ k = omega arith in let t = join_zeros_after v n (omega arith) in cc
 
 reports_others_nothing : (entry : Entry) (names : List (List Component)) → Other entry names
-    → reported_by names entry ≡ replicate (length names) 0
+    → numbers_of_entry names entry ≡ replicate (length names) 0
 reports_others_nothing entry [] h = refl
 reports_others_nothing entry (name ∷ names) h = rw (h.0, reports_others_nothing entry names h.1) refl
 
@@ -79,7 +79,7 @@ record Raises (entry : Entry) (names : List (List Component)) (v : List ℕ) (i 
   place : ℕ
   is : m ≡ i + place
   within : place < length names
-  raised : slice_set v place (max (slice_index v place) entry.1) ≡ join v (reported_by names entry)
+  raised : slice_set v place (max (slice_index v place) entry.1) ≡ join v (numbers_of_entry names entry)
 
 raises_first : (entry : Entry) (name : List Component) (names : List (List Component)) (k : ℕ) (v : List ℕ) (i : ℕ)
     → IsDistinct has_same_octets (name ∷ names) → length v ≡ length names → has_same_octets entry.0 name ≡ true
@@ -87,7 +87,7 @@ raises_first : (entry : Entry) (name : List Component) (names : List (List Compo
 unfolding IsDistinct join
 raises_first entry name names k v i apart long same =
     let others = reports_others_nothing entry names (same_name_apart entry name names same apart.0) in
-    let rest : join v (reported_by names entry) ≡ v =
+    let rest : join v (numbers_of_entry names entry) ≡ v =
     ap (join v) others ∙ join_zeros_after v (length names) (omega (arith, long)) in
     record { place = 0; is = omega arith; within = omega arith; raised = rw (same, rest) refl }
 
@@ -120,13 +120,13 @@ raises entry (name ∷ names) (k ∷ v) i m apart long h =
 -- ---- a further entry
 
 pub reported_more : (names : List (List Component)) (entry : Entry) (es : List Entry)
-    → join (reported_by names entry) (vector_reported names es) ≡ vector_reported names (entry ∷ es)
+    → join (numbers_of_entry names entry) (vector_of_entries names es) ≡ vector_of_entries names (entry ∷ es)
 unfolding join
 reported_more [] entry es = refl
-reported_more (name ∷ names) entry es = ap (λ (l : List ℕ). greatest_reported name (entry ∷ es) ∷ l)
+reported_more (name ∷ names) entry es = ap (λ (l : List ℕ). greatest_number name (entry ∷ es) ∷ l)
     (reported_more names entry es)
 
-pub reported_none : (names : List (List Component)) → vector_reported names [] ≡ replicate (length names) 0
+pub reported_none : (names : List (List Component)) → vector_of_entries names [] ≡ replicate (length names) 0
 reported_none [] = refl
 reported_none (name ∷ names) = ap (λ (l : List ℕ). 0 ∷ l) (reported_none names)
 
@@ -134,7 +134,7 @@ module _ (roster : List (List Component)) (are : IsRoster roster) where
   -- what an entry that is counted makes of a vector
   pub record Counts (v : List ℕ) (entry : Entry) (w : List ℕ) : Type 0 where
     pub long : length w ≡ length roster
-    pub joined : w ≡ join v (reported_by roster entry)
+    pub joined : w ≡ join v (numbers_of_entry roster entry)
 
   pub stranger_counts : (v : List ℕ) (entry : Entry) → length v ≡ length roster → member_of entry.0 roster ≡ None
       → Counts v entry v
@@ -167,7 +167,7 @@ abbrev Outcome : List (List Component) → Item → List ℕ → Fields → Resu
 Outcome roster e v read (Ok w) =
     (es : List Entry)
     × FieldsTell roster e read (Ok es)
-    × (IsRoster roster → length v ≡ length roster → w ≡ join v (vector_reported roster es))
+    × (IsRoster roster → length v ≡ length roster → w ≡ join v (vector_of_entries roster es))
 Outcome roster e v read (Err fault) = FieldsTell roster e read (Err fault)
 
 module _ (roster : List (List Component)) (e : Item) where
@@ -185,8 +185,8 @@ module _ (roster : List (List Component)) (e : Item) where
           λ are long.
               let here = counts are long in
               o.2 are here.long
-              ∙ ap (λ (l : List ℕ). join l (vector_reported roster es)) here.joined
-              ∙ join_assoc v (reported_by roster entry) (vector_reported roster es)
+              ∙ ap (λ (l : List ℕ). join l (vector_of_entries roster es)) here.joined
+              ∙ join_assoc v (numbers_of_entry roster entry) (vector_of_entries roster es)
               ∙ ap (join v) (reported_more roster entry es),
         )
     counted_then t fits counts (Err fault) o = later entry is fits o
@@ -247,10 +247,10 @@ module _ (roster : List (List Component)) (octets : List ℕ) where
   inside e es first typ (Ok vector) o = λ are. record {
     entries = o.0;
     begins = record { vector = e; after = es; first = first; typ = typ; tells = o.1 };
-    reported =
+    received =
         o.2 are (length-replicate (length roster) 0)
-        ∙ join_zeros (length roster) (vector_reported roster o.0)
-        (omega (arith, length-map roster (λ name. greatest_reported name o.0)));
+        ∙ join_zeros (length roster) (vector_of_entries roster o.0)
+        (omega (arith, length-map roster (λ name. greatest_number name o.0)));
   }
   inside e es first typ (Err fault) o = inr (record { vector = e; after = es; first = first; typ = typ; tells = o })
 
@@ -266,5 +266,5 @@ module _ (roster : List (List Component)) (octets : List ℕ) where
   among [] none = inl ((λ e es first typ. absurd cc), refl)
   among (e ∷ es) first = typed (eqb e.typ 201) e es first refl
 
-  pub vector_is_reported : Whole (vector_of roster octets)
-  vector_is_reported = among (elements 0 octets).items refl
+  pub vector_is_received : Whole (vector_of roster octets)
+  vector_is_received = among (elements 0 octets).items refl

@@ -10,4 +10,4 @@ pub mod Vectors
 pub mod Rosters
 pub mod StateVector
 pub mod WrittenVector
-pub mod ReportedVector
+pub mod EntriesVector

@@ -7,13 +7,13 @@
 mod entry;
 mod laws;
 mod read;
-mod reported_numbers;
 mod roster;
 mod roster_fault;
 mod types;
 mod vector;
 mod vector_fault;
 mod vector_laws;
+mod vector_numbers;
 mod write;
 
 pub use laws::{
@@ -21,7 +21,6 @@ pub use laws::{
     join_is_the_least_that_covers_both, join_takes_the_greater, joins_are_the_join_of_all,
     joins_in_any_order_give_the_same,
 };
-pub use reported_numbers::ReportedNumbers;
 pub use roster::{MEMBER_LIMIT, Roster};
 pub use roster_fault::RosterFault;
 pub use vector::Vector;
@@ -31,3 +30,4 @@ pub use vector_laws::{
     entries_tell_the_same_in_any_order, state_vectors_tell_their_entries,
     vector_faults_are_of_the_octets, written_vectors_are_read_back,
 };
+pub use vector_numbers::VectorNumbers;

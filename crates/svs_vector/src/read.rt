@@ -4,11 +4,11 @@ ghost use Rattle.ndn_tlv.specs.Elements.{item, elements};
 ghost use Rattle.svs_vector.specs.StateVector.{with_vector_entry, vector_in, vector_among, vector_of};
 
 use crate::entry::{entry_in, fault_in};
-use crate::reported_numbers::ReportedNumbers;
 use crate::roster::{MEMBER_LIMIT, Roster};
 use crate::types;
 use crate::vector::Vector;
 use crate::vector_fault::VectorFault;
+use crate::vector_numbers::VectorNumbers;
 use ndn_tlv::{Element, FieldReader, Place, Reader};
 use std::alloc::Global;
 
@@ -25,7 +25,7 @@ pub(crate) const VECTOR_PLACES: [Place<VectorField>; 1] = [Place {
 
 impl Vector {
     /// The state vector that the octets begin with, of the members of a roster, as
-    /// [`ReportedNumbers::read`] reads it.
+    /// [`VectorNumbers::read`] reads it.
     pub fn read(alloc: Global, octets: &[u8], roster: &Roster) -> Result<Vector, VectorFault>
         ensures ok { IfOk result (λ vector. vector_of roster.now octets.now ≡ Ok vector) }
         ensures width { IfOk result (λ vector. length vector ≡ length roster.now) }
@@ -33,29 +33,29 @@ impl Vector {
             (vector_of roster.now octets.now ≡ Err fault) ⊎ (fault ≡ VectorFault.NoMemory)) }
         ensures memory { result ≡ Err VectorFault.NoMemory → IsOk (vector_of roster.now octets.now) }
     {
-        let reported = ReportedNumbers::read(octets, roster)?;
-        Ok(reported.to_vector(alloc)?)
+        let received = VectorNumbers::read(octets, roster)?;
+        Ok(received.to_vector(alloc)?)
     }
 }
 
-impl ReportedNumbers {
+impl VectorNumbers {
     /// The numbers of the state vector that the octets begin with, of the members of a roster. It
     /// takes no memory.
     ///
     /// Entries come in any order, and a node's greatest number counts. Nodes that are no members
     /// are passed over.
-    pub fn read(octets: &[u8], roster: &Roster) -> Result<ReportedNumbers, VectorFault>
-        ensures reported { MatchResult result
-            (λ reported. vector_of roster.now octets.now ≡ Ok reported)
+    pub fn read(octets: &[u8], roster: &Roster) -> Result<VectorNumbers, VectorFault>
+        ensures received { MatchResult result
+            (λ received. vector_of roster.now octets.now ≡ Ok received)
             (λ fault. vector_of roster.now octets.now ≡ Err fault) }
-        ensures width { IfOk result (λ reported. length reported ≡ length roster.now) }
+        ensures width { IfOk result (λ received. length received ≡ length roster.now) }
     {
         let element = vector_element(octets)?;
         let mut numbers = [0; MEMBER_LIMIT];
         let members = roster.len();
-        let (reported, _) = numbers.split_at_mut(members);
-        take_entries(reported, element, roster)?;
-        Ok(ReportedNumbers::new(numbers, members))
+        let (received, _) = numbers.split_at_mut(members);
+        take_entries(received, element, roster)?;
+        Ok(VectorNumbers::new(numbers, members))
     }
 }
 

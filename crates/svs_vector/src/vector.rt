@@ -124,8 +124,8 @@ fn has_none_greater(numbers: &[u16], others: &[u16]) -> bool
     requires { length numbers.now ≡ length others.now }
     ensures { result ≡ covers numbers.now others.now }
 {
-    for (i, reported) in others.iter().enumerate() {
-        if numbers[i] < *reported {
+    for (i, received) in others.iter().enumerate() {
+        if numbers[i] < *received {
             return false;
         }
     }

@@ -9,7 +9,7 @@ ghost use Rattle.svs_vector.specs.declared.vector_fault.VectorFault.TheVariants.
 ghost use Rattle.svs_vector.specs.Rosters.{IsRoster};
 ghost use Rattle.svs_vector.specs.Format as format;
 ghost use Rattle.svs_vector.specs.StateVector.{Entry, vector_of};
-ghost use Rattle.svs_vector.specs.ReportedVector.{vector_reported, HaveSameEntries, IsVector, IsFault};
+ghost use Rattle.svs_vector.specs.EntriesVector.{vector_of_entries, HaveSameEntries, IsVector, IsFault};
 ghost use Rattle.svs_vector.specs.WrittenVector.{in_canonical_order, known_entries, written_vector};
 
 use crate::entry::ENTRY_PLACES;
@@ -55,7 +55,7 @@ pub fn entries_are_written_in_canonical_order()
 /// In which order entries stand, and how often each does, doesn't matter.
 pub fn entries_tell_the_same_in_any_order()
     ensures { (roster : List (List Component)) (a b : List Entry) → HaveSameEntries a b
-        → vector_reported roster a ≡ vector_reported roster b }
+        → vector_of_entries roster a ≡ vector_of_entries roster b }
 {}
 
 /// The state vector that was written is read back, with the numbers that were given.

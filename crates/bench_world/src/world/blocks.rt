@@ -2,8 +2,8 @@
 ghost use Rattle.std.specs.Prelude.{◌≡◌, ◌+◌, ◌<◌, length};
 ghost use Rattle.repo_object.specs.Objects.{IsContent};
 ghost use Rattle.bench_world.specs.Worlds.{drawing};
-ghost use Rattle.bench_world.specs.EventValues.{EventValue, reported_value};
-ghost use Rattle.bench_world.specs.Blocks.{after_blocked, blocked_reported};
+ghost use Rattle.bench_world.specs.EventValues.{EventValue, report_value};
+ghost use Rattle.bench_world.specs.Blocks.{after_blocked, blocked_report};
 ghost use Rattle.bench_world.specs.Runs.{IsStep};
 
 use super::World;
@@ -53,7 +53,7 @@ fn send_blocked(sent: &mut Sent, m: u32, mut vector: Vec<u16>, blocked: Blocked)
     requires few { length sent.old.packets < 4294967295 }
     requires there { m < length vector.items }
     ensures sent { sent.new.packets ≡ after_blocked m vector.items blocked sent.old.packets }
-    ensures reported { reported_value result ≡ blocked_reported m (length sent.old.packets + 1) blocked }
+    ensures report { report_value result ≡ blocked_report m (length sent.old.packets + 1) blocked }
 {
     match blocked {
         Blocked::Unknown => Happened::Block404 { m },

@@ -1,8 +1,8 @@
 // What fetchers claim.
 ghost use Rattle.std.specs.Prelude.{◌≡◌, ◌+◌, ◌<◌, None, length};
 ghost use Rattle.repo_plan.specs.Calls.{IsFetcher};
-ghost use Rattle.bench_world.specs.Serving.{keyed};
-ghost use Rattle.bench_world.specs.EventValues.{EventValue, reported_value, claim_reported};
+ghost use Rattle.bench_world.specs.Serving.{lossless};
+ghost use Rattle.bench_world.specs.EventValues.{EventValue, report_value, claim_report};
 ghost use Rattle.bench_world.specs.Runs.{IsStep};
 
 use super::World;
@@ -16,7 +16,7 @@ impl World {
         requires there { m < length self.old.members }
         requires fetcher { IsFetcher f }
         requires few { self.old.steps < 100000 }
-        ensures { IsStep (keyed self.old.keys) (EventValue.Claim m f) self.old result self.new }
+        ensures { IsStep (lossless self.old.keys) (EventValue.Claim m f) self.old result self.new }
     {
         let member = &mut self.members[m as usize];
         let Ok(claim) = member.claim(f as u8) else {
@@ -31,7 +31,7 @@ impl World {
         requires there { m < length self.old.members }
         requires fetcher { IsFetcher f }
         requires few { self.old.steps < 100000 }
-        ensures { IsStep (keyed self.old.keys) (EventValue.Lose m f) self.old result self.new }
+        ensures { IsStep (lossless self.old.keys) (EventValue.Lose m f) self.old result self.new }
     {
         let member = &mut self.members[m as usize];
         let Ok(part) = member.lose(f as u8) else {
@@ -48,9 +48,9 @@ impl World {
     }
 }
 
-// What is reported of a claim.
+// The report of a claim.
 fn claimed(m: u32, f: u64, claim: Option<Part>) -> Happened
-    ensures { reported_value result ≡ claim_reported m f claim }
+    ensures { report_value result ≡ claim_report m f claim }
 {
     match claim {
         Some(part) => Happened::ClaimPart {

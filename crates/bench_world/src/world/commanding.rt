@@ -6,10 +6,10 @@ ghost use Rattle.repo_command.specs.Commands.{is_command, CommandIsSpelled};
 ghost use Rattle.group_model.specs.Limits.{IsShortInsertion};
 ghost use Rattle.group_model.specs.Steps.{after_issue, command_answer};
 ghost use Rattle.repo_member.specs.Commanded.{coded, order_of, order_made};
-ghost use Rattle.bench_world.specs.Serving.{keyed};
+ghost use Rattle.bench_world.specs.Serving.{lossless};
 ghost use Rattle.bench_world.specs.Worlds.{world_of};
 ghost use Rattle.bench_world.specs.Commanding.{may_order};
-ghost use Rattle.bench_world.specs.EventValues.{EventValue, reported_value, order_reported};
+ghost use Rattle.bench_world.specs.EventValues.{EventValue, report_value, order_report};
 ghost use Rattle.bench_world.specs.Runs.{IsStep};
 
 use super::World;
@@ -37,7 +37,7 @@ impl World {
         ensures mirrors { self.new.mirrors ≡ self.old.mirrors }
         ensures err { OnErr result (self.new ≡ self.old) }
     {
-        self.group.is_sound();
+        self.group.cite_soundness();
         let octets = made(self.alloc, &self.group, m, client, &command)?;
         self.issued.reserve(1)?;
         let member = &mut self.members[m as usize];
@@ -66,10 +66,10 @@ impl World {
         requires order { first ≤ last }
         requires blocks { last < first + 200 }
         requires few { self.old.steps < 100000 }
-        ensures { IsStep (keyed self.old.keys) (EventValue.Insert m client name.now first last)
+        ensures { IsStep (lossless self.old.keys) (EventValue.Insert m client name.now first last)
             self.old result self.new }
     {
-        name.is_sound();
+        name.cite_soundness();
         let command = Command::Insert {
             name: name.clone()?,
             first,
@@ -97,7 +97,7 @@ impl World {
         requires there { m < length self.old.members }
         requires client { client < length self.old.keys.clients.names }
         requires few { self.old.steps < 100000 }
-        ensures { IsStep (keyed self.old.keys) (EventValue.Status m client process) self.old result self.new }
+        ensures { IsStep (lossless self.old.keys) (EventValue.Status m client process) self.old result self.new }
     {
         let command = Command::Check {
             process: u64::from(process),
@@ -125,9 +125,9 @@ impl World {
         requires client { client < length self.old.keys.clients.names }
         requires name { IsTrue (is_object_name name.now) }
         requires few { self.old.steps < 100000 }
-        ensures { IsStep (keyed self.old.keys) (EventValue.Delete m client name.now) self.old result self.new }
+        ensures { IsStep (lossless self.old.keys) (EventValue.Delete m client name.now) self.old result self.new }
     {
-        name.is_sound();
+        name.cite_soundness();
         let command = Command::Delete {
             name: name.clone()?,
         };
@@ -149,7 +149,7 @@ impl World {
     pub(crate) fn order(&mut self, m: u32, octets: &[u8]) -> Result<Happened, EventError>
         requires there { m < length self.old.members }
         requires few { self.old.steps < 100000 }
-        ensures { IsStep (keyed self.old.keys) (EventValue.Order m octets.now) self.old result self.new }
+        ensures { IsStep (lossless self.old.keys) (EventValue.Order m octets.now) self.old result self.new }
     {
         let verdict = order_verdict(self.alloc, &self.group, &self.issued, m, octets)?;
         let member = &mut self.members[m as usize];
@@ -172,7 +172,7 @@ fn made(
     requires command { is_command command.now ≡ true }
     ensures { IfOk result (λ octets. octets.items ≡ order_made g.now m client command.now) }
 {
-    g.is_sound();
+    g.cite_soundness();
     let key_name = key_name(g.client_names().name(client))?;
     let octets = make_command(
         alloc,
@@ -200,7 +200,7 @@ fn order_verdict(
     ensures refused { IfErr result (λ fault. (fault ≡ EventError.NoMemory) ⊎ ((fault ≡ EventError.Foreign)
         × (may_order issued.now.commands m (order_of g.now m octets.now) ≡ false))) }
 {
-    g.is_sound();
+    g.cite_soundness();
     match check_command(alloc, octets, g.roster().name(m), g.clients()) {
         Ok((client, command)) => {
             let order = IssuedCommand {
@@ -219,9 +219,9 @@ fn order_verdict(
     }
 }
 
-// What is reported of an order.
+// The report of an order.
 fn ordered(m: u32, answer: Answer) -> Happened
-    ensures { reported_value result ≡ order_reported m answer }
+    ensures { report_value result ≡ order_report m answer }
 {
     Happened::Order {
         m,

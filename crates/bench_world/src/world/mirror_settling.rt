@@ -1,12 +1,12 @@
 // What mirrors gain in a settle.
 ghost use Rattle.std.specs.Prelude.{ℕ, ◌≡◌, ◌+◌, ◌<◌, ◌≤◌, length, IfOk, OnOk, OnErr};
-ghost use Rattle.group_model.specs.Laws.{NothingHidden};
+ghost use Rattle.group_model.specs.Laws.{NothingDeleted};
 ghost use Rattle.bench_world.specs.MirrorSteps.{mirror_at};
 ghost use Rattle.bench_world.specs.MirrorSettles.{HaveSettled, ListsItsJoin, ArePartlySettledMirrors, held_by_all};
 ghost use Rattle.bench_world.specs.Worlds.{world_of};
 
 use super::World;
-use crate::mirror_gathering::gather_for_all;
+use crate::mirror_fetches::fetch_all_for_mirrors;
 use crate::sync_exchange::all_known;
 use crate::touched::Touched;
 use repo_watch::Filter;
@@ -31,13 +31,13 @@ impl World {
         ensures settled { OnOk result (HaveSettled (world_of self.old) self.old.mirrors self.new.mirrors) }
         ensures parts { IfOk result (λ n. n + held_by_all self.old.mirrors ≡ held_by_all self.new.mirrors) }
         // Where nothing is hidden, each catalogue is what the mirror's pattern accepts of the join of all publications.
-        ensures joined { OnOk result (NothingHidden (world_of self.old) → (i : ℕ) → i < length self.new.mirrors
+        ensures joined { OnOk result (NothingDeleted (world_of self.old) → (i : ℕ) → i < length self.new.mirrors
             → ListsItsJoin (world_of self.old) (mirror_at self.new.mirrors i)) }
         ensures err { OnErr result
             (ArePartlySettledMirrors (world_of self.old) self.old.mirrors self.new.mirrors) }
     {
         let known = all_known(self.alloc, self.members.as_slice())?;
-        let parts = gather_for_all(
+        let parts = fetch_all_for_mirrors(
             rt,
             self.alloc,
             &self.group,

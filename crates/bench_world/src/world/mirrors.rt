@@ -6,7 +6,7 @@ ghost use Rattle.group_model.specs.Refusals.{unless_sent};
 ghost use Rattle.group_model.specs.Refusals.Refusal.{NoSuchPacket};
 ghost use Rattle.repo_mirror.specs.Mirrors.{mirror_catalogue};
 ghost use Rattle.repo_holdings.specs.Listed.{member_catalogue};
-ghost use Rattle.repo_mirror.specs.MirrorState.{mirror_opening};
+ghost use Rattle.repo_mirror.specs.MirrorState.{initial_mirror};
 ghost use Rattle.repo_mirror.specs.ConsistentMirrors.{mirror_in_group};
 ghost use Rattle.bench_world.specs.MirrorSteps.{mirror_limit, mirror_at, mirror_learns, mirror_fetches};
 ghost use Rattle.bench_world.specs.MirrorFetching.{mirror_asks, mirror_gets, mirror_attempts, HasFetched};
@@ -60,7 +60,7 @@ impl World {
         ensures full { (result ≡ Err MirrorFault.Full) ↔ (mirror_limit ≤ length self.old.mirrors) }
         ensures number { IfOk result (λ i. i ≡ length self.old.mirrors) }
         ensures ok { OnOk result (self.new ≡ record self.old {
-          mirrors = self.old.mirrors ++ mirror_opening pattern (length self.old.members) ∷ [];
+          mirrors = self.old.mirrors ++ initial_mirror pattern (length self.old.members) ∷ [];
         }) }
         ensures err { OnErr result (self.new ≡ self.old) }
     {
@@ -90,9 +90,9 @@ impl World {
         let Some(numbers) = self.sent.vector(k) else {
             return Err(EventError::NoSuchPacket);
         };
-        let reported = vector_of(self.alloc, numbers)?;
+        let received = vector_of(self.alloc, numbers)?;
         let mirror = &mut self.mirrors[i as usize];
-        mirror.learn(&reported);
+        mirror.learn(&received);
         Ok(())
     }
 

@@ -3,11 +3,11 @@ ghost use Rattle.std.specs.Prelude.{◌≡◌, ◌<◌, ◌≤◌, ℕ, None, le
 ghost use Rattle.sorted_lists.specs.Range.{numbers_from};
 ghost use Rattle.repo_plan.specs.Parts.{part_cmp};
 ghost use Rattle.sorted_lists.specs.SortedList.{value_of};
-ghost use Rattle.bench_world.specs.Serving.{keyed};
+ghost use Rattle.bench_world.specs.Serving.{lossless};
 ghost use Rattle.bench_world.specs.Worlds.{state_at};
 ghost use Rattle.bench_world.specs.Runs.{IsStep};
 ghost use Rattle.bench_world.specs.MemberTotals.{totals_in, HasFewTotals};
-ghost use Rattle.bench_world.specs.EventValues.{EventValue, reported_value, dump_reported};
+ghost use Rattle.bench_world.specs.EventValues.{EventValue, report_value, dump_report};
 
 use super::World;
 use crate::event::{EventError, Happened};
@@ -22,7 +22,7 @@ impl World {
     pub(crate) fn vector(&mut self, m: u32) -> Result<Happened, EventError>
         requires there { m < length self.old.members }
         requires few { self.old.steps < 100000 }
-        ensures { IsStep (keyed self.old.keys) (EventValue.Vector m) self.old result self.new }
+        ensures { IsStep (lossless self.old.keys) (EventValue.Vector m) self.old result self.new }
     {
         let numbers = known(self.alloc, self.members[m as usize].vector())?;
         let members = self.numbered()?;
@@ -38,7 +38,7 @@ impl World {
     pub(crate) fn catalogue(&mut self, m: u32) -> Result<Happened, EventError>
         requires there { m < length self.old.members }
         requires few { self.old.steps < 100000 }
-        ensures { IsStep (keyed self.old.keys) (EventValue.Catalogue m) self.old result self.new }
+        ensures { IsStep (lossless self.old.keys) (EventValue.Catalogue m) self.old result self.new }
     {
         let entries = copied(self.alloc, self.member(m).catalogue().entries())?;
         self.count();
@@ -52,7 +52,7 @@ impl World {
     /// What was counted.
     pub(crate) fn traffic(&mut self) -> Happened
         requires few { self.old.steps < 100000 }
-        ensures { IsStep (keyed self.old.keys) EventValue.Traffic self.old (Ok result) self.new }
+        ensures { IsStep (lossless self.old.keys) EventValue.Traffic self.old (Ok result) self.new }
     {
         let tally = self.tally();
         self.count();
@@ -68,7 +68,7 @@ impl World {
     /// What all catalogues come to.
     pub(crate) fn summary(&mut self) -> Result<Happened, EventError>
         requires few { self.old.steps < 100000 }
-        ensures { IsStep (keyed self.old.keys) EventValue.Summary self.old result self.new }
+        ensures { IsStep (lossless self.old.keys) EventValue.Summary self.old result self.new }
     {
         let members = self.numbered()?;
         let sums = add_up(self.alloc, self.members.as_slice())?;
@@ -86,7 +86,7 @@ impl World {
         requires there { m < length self.old.members }
         requires small { (s < 65536) × (x < 65536) }
         requires few { self.old.steps < 100000 }
-        ensures { IsStep (keyed self.old.keys) (EventValue.Dump m p s x) self.old result self.new }
+        ensures { IsStep (lossless self.old.keys) (EventValue.Dump m p s x) self.old result self.new }
     {
         let part = Part {
             publisher: p,
@@ -131,7 +131,7 @@ struct SummaryColumns {
     octets: Vec<u64>,
 }
 
-// What each member's catalogue comes to.
+// The totals of each member's catalogue.
 fn add_up(alloc: Global, members: &[Member]) -> Result<SummaryColumns, AllocError>
     requires { (j : ℕ) → j < length members.now → HasFewTotals (totals_in (state_at members.now j)) }
     ensures entries { IfOk result (λ sums. sums.entries.items ≡ map (λ a. (totals_in a).entries) members.now) }
@@ -163,10 +163,10 @@ fn copied(alloc: Global, entries: &[Entry]) -> Result<Vec<Entry>, AllocError>
     Ok(copies)
 }
 
-// What is reported of a packet that a member holds or doesn't.
+// The report of a packet that a member holds or doesn't.
 fn dumped(alloc: Global, m: u32, member: &Member, part: Part) -> Result<Happened, AllocError>
-    ensures { IfOk result (λ happened. reported_value happened
-        ≡ dump_reported m (value_of part_cmp member.now.store part)) }
+    ensures { IfOk result (λ happened. report_value happened
+        ≡ dump_report m (value_of part_cmp member.now.store part)) }
 {
     match member.packet(part) {
         Some(octets) => Ok(Happened::DumpHex {

@@ -1,19 +1,19 @@
-// What comes for claims, from other members and from outside, and what is reported of octets from outside.
+// Responses to claims, from other members and from outside, and the report of octets from outside.
 ghost use Rattle.std.specs.Prelude.{◌≡◌, ◌+◌, ◌<◌, length, IfOk};
 ghost use Rattle.repo_plan.specs.Calls.{IsFetcher};
 ghost use Rattle.repo_store.specs.Served.{served};
-ghost use Rattle.bench_world.specs.Serving.{keyed};
+ghost use Rattle.bench_world.specs.Serving.{lossless};
 ghost use Rattle.bench_world.specs.Worlds.{drawing};
 ghost use Rattle.bench_world.specs.Answering.{kept_of};
 ghost use Rattle.bench_world.specs.Replying.{fed_reply, parts_kept};
-ghost use Rattle.bench_world.specs.EventValues.{EventValue, reported_value, answer_reported, ask_reported};
-ghost use Rattle.bench_world.specs.EventValues.{mode_reported};
+ghost use Rattle.bench_world.specs.EventValues.{EventValue, report_value, answer_report, ask_report};
+ghost use Rattle.bench_world.specs.EventValues.{mode_report};
 ghost use Rattle.bench_world.specs.Runs.{IsStep};
 
 use super::World;
 use crate::answering::{Fed, answer, feed};
 use crate::event::{EventError, Happened};
-use crate::hearing::{hear_sent, reported_by};
+use crate::hearing::{hear_sent, signed_vector};
 use bench_net::Draws;
 use repo_member::{HearRefusal, Member};
 use std::alloc::{AllocError, Global};
@@ -36,7 +36,7 @@ impl World {
         requires fetcher { IsFetcher f }
         requires other { q < length self.old.members }
         requires few { self.old.steps < 100000 }
-        ensures { IsStep (keyed self.old.keys) (EventValue.Answer m f q) self.old result self.new }
+        ensures { IsStep (lossless self.old.keys) (EventValue.Answer m f q) self.old result self.new }
     {
         let claimed = self.members[m as usize].claimed(f as u8);
         let kept = answer(self.alloc, &self.group, &mut self.members, m, f as u8, q)?;
@@ -55,7 +55,7 @@ impl World {
         requires there { m < length self.old.members }
         requires fetcher { IsFetcher f }
         requires few { self.old.steps < 100000 }
-        ensures { IsStep (keyed self.old.keys) (EventValue.Feed m f octets.now) self.old result self.new }
+        ensures { IsStep (lossless self.old.keys) (EventValue.Feed m f octets.now) self.old result self.new }
     {
         let claimed = self.members[m as usize].claimed(f as u8);
         let fed = feed(
@@ -78,7 +78,7 @@ impl World {
     pub(crate) fn ask(&mut self, m: u32, octets: &[u8]) -> Result<Happened, EventError>
         requires there { m < length self.old.members }
         requires few { self.old.steps < 100000 }
-        ensures { IsStep (keyed self.old.keys) (EventValue.Ask m octets.now) self.old result self.new }
+        ensures { IsStep (lossless self.old.keys) (EventValue.Ask m octets.now) self.old result self.new }
     {
         let happened = asked(self.alloc, m, &self.members[m as usize], octets)?;
         self.count();
@@ -98,14 +98,14 @@ impl World {
         requires few { self.old.steps < 100000 }
         ensures { IsStep (drawing (D.draw draws.now)) (EventValue.Hear m octets.now) self.old result self.new }
     {
-        let (signer, vector) = match reported_by(
+        let (signer, vector) = match signed_vector(
             self.alloc,
             &self.group,
             &self.members[m as usize],
             m,
             octets,
         ) {
-            Ok(reported) => reported,
+            Ok(received) => received,
             Err(HearRefusal::NoMemory) => return Err(EventError::NoMemory),
             Err(HearRefusal::Sync(refusal)) => {
                 self.count();
@@ -133,9 +133,9 @@ impl World {
     }
 }
 
-// What is reported of an answer.
+// The report of an answer.
 fn answered(m: u32, f: u64, kept: bool) -> Happened
-    ensures { reported_value result ≡ answer_reported m f kept }
+    ensures { report_value result ≡ answer_report m f kept }
 {
     if kept {
         Happened::AnswerKept { m, f }
@@ -164,9 +164,9 @@ fn kept_octets(fed: Fed, octets: &[u8]) -> Option<u64>
     }
 }
 
-// What is reported of octets for a claim.
+// The report of octets for a claim.
 fn fed_happened(m: u32, f: u64, fed: Fed) -> Happened
-    ensures { reported_value result ≡ fed_reply m f fed }
+    ensures { report_value result ≡ fed_reply m f fed }
 {
     match fed {
         Fed::Kept => Happened::FeedKept { m, f },
@@ -174,9 +174,9 @@ fn fed_happened(m: u32, f: u64, fed: Fed) -> Happened
     }
 }
 
-// What is reported of what a member answers to an Interest.
+// The report of what a member answers to an Interest.
 fn asked(alloc: Global, m: u32, member: &Member, octets: &[u8]) -> Result<Happened, AllocError>
-    ensures { IfOk result (λ happened. reported_value happened ≡ ask_reported m (served octets.now member.now.store)) }
+    ensures { IfOk result (λ happened. report_value happened ≡ ask_report m (served octets.now member.now.store)) }
 {
     match member.serve(octets) {
         Ok(Some(packet)) => Ok(Happened::AskFound {
@@ -188,9 +188,9 @@ fn asked(alloc: Global, m: u32, member: &Member, octets: &[u8]) -> Result<Happen
     }
 }
 
-// What is reported of a vector that a member heard, by its mode afterwards.
+// The report of a vector that a member heard, by its mode afterwards.
 fn heard(m: u32, mode: Mode) -> Happened
-    ensures { reported_value result ≡ mode_reported m mode }
+    ensures { report_value result ≡ mode_report m mode }
 {
     match mode {
         Mode::Steady => Happened::HearSteady { m },

@@ -1,10 +1,10 @@
 // What members tell each other and gather of each other in a settle.
 ghost use Rattle.std.specs.Prelude.{◌≡◌, ◌+◌, ◌<◌, ◌≤◌, IfOk, OnOk, OnErr};
-ghost use Rattle.group_model.specs.Laws.{NothingHidden, AllJoined};
-ghost use Rattle.group_model.specs.Steps.{after_gathering, settle_gains};
-ghost use Rattle.bench_world.specs.Serving.{environment, keyed};
+ghost use Rattle.group_model.specs.Laws.{NothingDeleted, AllJoined};
+ghost use Rattle.group_model.specs.Steps.{after_gathering, settle_new_parts};
+ghost use Rattle.bench_world.specs.Serving.{environment, lossless};
 ghost use Rattle.bench_world.specs.Worlds.{world_of};
-ghost use Rattle.bench_world.specs.Runs.{HaveSettledPart};
+ghost use Rattle.bench_world.specs.Runs.{HaveSettledPartly};
 ghost use Rattle.bench_world.specs.EventValues.{EventValue};
 ghost use Rattle.bench_world.specs.Runs.{IsStep};
 
@@ -20,7 +20,8 @@ impl World {
     /// All claims end, each member learns what all know, and gains every part that some member holds with its record
     /// and that it doesn't hide: how many parts came. The machines aren't reset, which the step of a settle does.
     ///
-    /// The answers of the network aren't used. After running out of memory each member has come a part of the way.
+    /// The network is asked, but its answers decide nothing. After running out of memory each member has come a part of
+    /// the way.
     pub fn settle<N: Net + Sync, R: Threads + Sync>(
         &mut self,
         rt: &R,
@@ -29,14 +30,14 @@ impl World {
     ) -> Result<u64, AllocError>
         requires workers { (1 ≤ workers) × (workers ≤ 16) }
         requires few { self.old.steps < 100000 }
-        ensures world { OnOk result (world_of self.new ≡ after_gathering (keyed self.old.keys) (world_of self.old)) }
-        ensures parts { IfOk result (λ parts. parts ≡ settle_gains (world_of self.old)) }
+        ensures world { OnOk result (world_of self.new ≡ after_gathering (lossless self.old.keys) (world_of self.old)) }
+        ensures parts { IfOk result (λ parts. parts ≡ settle_new_parts (world_of self.old)) }
         // Where nothing is hidden, each catalogue is the join of all publications.
-        ensures joined { OnOk result (NothingHidden (world_of self.new) → AllJoined (world_of self.new)) }
+        ensures joined { OnOk result (NothingDeleted (world_of self.new) → AllJoined (world_of self.new)) }
         ensures steps { self.new.steps ≡ self.old.steps + 1 }
         ensures keys { self.new.keys ≡ self.old.keys }
         ensures mirrors { self.new.mirrors ≡ self.old.mirrors }
-        ensures err { OnErr result (HaveSettledPart self.old self.new) }
+        ensures err { OnErr result (HaveSettledPartly self.old self.new) }
     {
         self.steps += 1;
         self.sent.reserve(self.members.len())?;
@@ -49,9 +50,9 @@ impl World {
             &self.unsettled.members,
             &mut self.members,
         )?;
-        let (reported, parts, octets) = settled;
+        let (syncs, parts, octets) = settled;
         self.unsettled.members = Touched::none(self.alloc);
-        send_all(&mut self.sent, reported);
+        send_all(&mut self.sent, syncs);
         let count = self.members.len() as u64;
         self.delivered += count * count.saturating_sub(1);
         self.parts += parts;

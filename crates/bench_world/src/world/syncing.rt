@@ -1,8 +1,8 @@
 // What members tell each other, and their timers.
 ghost use Rattle.std.specs.Prelude.{◌≡◌, ◌+◌, ◌<◌, ◌≤◌, length};
 ghost use Rattle.bench_world.specs.Worlds.{drawing};
-ghost use Rattle.bench_world.specs.Timers.{after_firing, fire_reported};
-ghost use Rattle.bench_world.specs.EventValues.{EventValue, reported_value, delivered_reported};
+ghost use Rattle.bench_world.specs.Timers.{after_firing, fire_report};
+ghost use Rattle.bench_world.specs.EventValues.{EventValue, report_value, delivered_report};
 ghost use Rattle.bench_world.specs.Runs.{IsStep};
 
 use super::World;
@@ -27,11 +27,11 @@ impl World {
         let Some(numbers) = self.sent.vector(k) else {
             return Err(EventError::NoSuchPacket);
         };
-        let reported = vector_of(self.alloc, numbers)?;
+        let received = vector_of(self.alloc, numbers)?;
         let member = &mut self.members[m as usize];
         let draw = draws.draw(m, member.next_draw());
         // A member sent it, so it reports no publication that there isn't.
-        let mode = member.hear_vector(&reported, self.time, draw);
+        let mode = member.hear_vector(&received, self.time, draw);
         self.delivered += 1;
         self.steps += 1;
         Ok(delivered(u64::from(k), m, mode))
@@ -96,9 +96,9 @@ impl World {
     }
 }
 
-// What is reported of a delivery, by the mode of the member afterwards.
+// The report of a delivery, by the mode of the member afterwards.
 fn delivered(k: u64, m: u32, mode: Mode) -> Happened
-    ensures { reported_value result ≡ delivered_reported k m mode }
+    ensures { report_value result ≡ delivered_report k m mode }
 {
     match mode {
         Mode::Steady => Happened::DeliverSteady { k, m },
@@ -111,7 +111,7 @@ fn send_fired(sent: &mut Sent, m: u32, vector: Vec<u16>, fire: Fire) -> Happened
     requires room { 0 < sent.old.spare }
     requires few { length sent.old.packets < 4294967295 }
     ensures sent { sent.new.packets ≡ after_firing m vector.items fire sent.old.packets }
-    ensures reported { reported_value result ≡ fire_reported m (length sent.old.packets + 1) fire }
+    ensures report { report_value result ≡ fire_report m (length sent.old.packets + 1) fire }
 {
     match fire {
         Fire::Early => Happened::FireEarly { m },

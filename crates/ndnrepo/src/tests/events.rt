@@ -37,7 +37,7 @@ fn plain_name(rt: &(impl Abort + AllocGlobal), text: &str) -> Name
 fn clients_of(g: &Group) -> usize
     ensures { result ≡ length g.now.clients.names }
 {
-    g.is_sound();
+    g.cite_soundness();
     g.clients().len()
 }
 

@@ -27,7 +27,7 @@ impl Holdings {
         ensures claim { result ≡ claim_of (held_plan self.now) f }
         ensures wanted { IfSome result (λ part. is_wanted (held_plan self.now) part ≡ true) }
     {
-        self.plan.is_sound();
+        self.plan.cite_soundness();
         self.plan.claimed(f)
     }
 

@@ -2,7 +2,7 @@
 ghost use Rattle.std.specs.Prelude.{◌≡◌, ◌+◌, ◌-◌, ◌<◌, ◌≤◌, ◌==◌, true, false, is_some};
 ghost use Rattle.std.specs.List.{All};
 ghost use Rattle.repo_plan.specs.Parts.{pair_of};
-ghost use Rattle.repo_plan.specs.Plan.{holds, hides, is_asked, is_claimed, holds_too, uses_room};
+ghost use Rattle.repo_plan.specs.Plan.{holds, hides, may_be_asked_for, is_claimed, after_hold, uses_room};
 ghost use Rattle.repo_store.specs.StoreList.{with_packet};
 ghost use Rattle.repo_holdings.specs.StoredParents.{lists_at, ListsAsMany};
 ghost use Rattle.repo_holdings.specs.Listed.{entry_at, member_catalogue};
@@ -28,7 +28,7 @@ impl Holdings {
     pub fn gain(&mut self, part: Part, arrival: Arrival)
         requires room { 0 < self.old.spare }
         requires arrival { IsArrival self.old.store part arrival.packet arrival.summary }
-        requires asked { is_asked (held_plan self.old) part ≡ true }
+        requires asked { may_be_asked_for (held_plan self.old) part ≡ true }
         requires not_held { holds (held_plan self.old) part ≡ false }
         requires not_hidden { hides (held_plan self.old) (pair_of part) ≡ false }
         requires not_claimed { is_claimed (held_plan self.old) part ≡ false }
@@ -65,11 +65,11 @@ pub(super) fn gain(
     requires shape { is_some shape ≡ (part.part == 0) }
     requires summary { shape ≡ shape_in_summary part packet }
     requires lists { ListsAsMany packet (lists_at store.old.packets part) }
-    requires asked { is_asked plan.old part ≡ true }
+    requires asked { may_be_asked_for plan.old part ≡ true }
     requires not_held { holds plan.old part ≡ false }
     requires not_hidden { hides plan.old (pair_of part) ≡ false }
     requires not_claimed { is_claimed plan.old part ≡ false }
-    ensures plan { plan.new ≡ uses_room (holds_too part shape plan.old) }
+    ensures plan { plan.new ≡ uses_room (after_hold part shape plan.old) }
     ensures store { store.new ≡ record {
       packets = with_packet part packet store.old.packets;
       spare = store.old.spare - 1;
@@ -96,12 +96,12 @@ pub(super) fn gain_noted(
     requires tied { AreTied plan.old store.old.packets }
     requires noted { AreNotes notes.old store.old.packets }
     requires arrival { IsArrival store.old.packets part arrival.packet arrival.summary }
-    requires asked { is_asked plan.old part ≡ true }
+    requires asked { may_be_asked_for plan.old part ≡ true }
     requires not_held { holds plan.old part ≡ false }
     requires not_hidden { hides plan.old (pair_of part) ≡ false }
     requires not_claimed { is_claimed plan.old part ≡ false }
     requires digests { All (IsDigestIn (with_packet part arrival.packet store.old.packets)) digests.now }
-    ensures plan { plan.new ≡ uses_room (holds_too part (shape_in_summary part arrival.packet) plan.old) }
+    ensures plan { plan.new ≡ uses_room (after_hold part (shape_in_summary part arrival.packet) plan.old) }
     ensures others { KeepsOthers plan.old plan.new }
     ensures packets { store.new.packets ≡ with_packet part arrival.packet store.old.packets }
     ensures store_room { store.new.spare ≡ store.old.spare - 1 }

@@ -1,6 +1,6 @@
 ghost use Rattle.std.specs.Prelude.{◌≡◌, ◌<◌, ◌↔◌, true, None, Some, IsSome, IsTrue, IfSome};
 ghost use Rattle.repo_plan.specs.Parts.{pair_of, parent};
-ghost use Rattle.repo_plan.specs.Plan.{is_asked};
+ghost use Rattle.repo_plan.specs.Plan.{may_be_asked_for};
 ghost use Rattle.repo_holdings.specs.HoldingsState.{held_plan};
 ghost use Rattle.repo_holdings.specs.Listed.{listing_at};
 ghost use Rattle.repo_holdings.specs.StoredParents.{index_at, digest_at, IsStoredParent, IsListedBy, HasParent};
@@ -45,7 +45,7 @@ impl Holdings {
         part: Part,
         last: Option<StoredParent<'m>>,
     ) -> Option<StoredParent<'m>>
-        requires asked { is_asked (held_plan self.now) part ≡ true }
+        requires asked { may_be_asked_for (held_plan self.now) part ≡ true }
         requires last { IfSome last (IsStoredParent self.now.store) }
         ensures stored { IfSome result (IsStoredParent self.now.store) }
         ensures listed { IfSome result (IsListedBy self.now.store part) }

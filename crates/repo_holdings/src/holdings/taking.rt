@@ -9,7 +9,7 @@ ghost use Rattle.repo_holdings.specs.Noted.{AreNotes};
 ghost use Rattle.repo_holdings.specs.Gaining.{AreTied};
 ghost use Rattle.repo_holdings.specs.HoldingsState.{held_plan, AreInOrder};
 ghost use Rattle.repo_holdings.specs.Taking.{came, arrival_octets, with_tries, with_fetched, with_all_fetched};
-ghost use Rattle.repo_holdings.specs.Taking.{with_all_tries, takes_too, CanBeTaken, AreTakable, KeepsButTries};
+ghost use Rattle.repo_holdings.specs.Taking.{with_all_tries, after_outcome, CanBeTaken, AreTakable, KeepsButTries};
 ghost use Rattle.repo_holdings.specs.Taking.{AreListedWith, AreApartPairs};
 
 use super::Holdings;
@@ -48,7 +48,7 @@ impl Holdings {
         requires takable { AreTakable (held_plan self.old) self.old.store all.items }
         requires few { vec_len all < 2 ^ 32 }
         requires digests { All (IsDigestIn (with_all_fetched (map came all.items) self.old.store)) digests.now }
-        ensures taken { self.new ≡ takes_too (map came all.items) self.old }
+        ensures taken { self.new ≡ after_outcome (map came all.items) self.old }
         ensures in_order { AreInOrder self.new }
         ensures parts { result.parts ≡ count_by (λ x. is_some x.arrival) all.items }
         ensures octets { result.octets ≡ sum_by arrival_octets all.items }

@@ -1,6 +1,6 @@
 ghost use Rattle.std.specs.Prelude.{◌≡◌, true, None, length, map, take, IfSome, IfOk};
 ghost use Rattle.std.specs.List.{All, filter};
-ghost use Rattle.repo_plan.specs.Plan.{is_asked, is_after, unclaimed};
+ghost use Rattle.repo_plan.specs.Plan.{may_be_asked_for, is_after, unclaimed};
 ghost use Rattle.repo_plan.specs.Leaps.{some_holds};
 ghost use Rattle.repo_holdings.specs.HoldingsState.{held_plan};
 ghost use Rattle.repo_holdings.specs.StoredParents.{lists_at, IsListedBy};
@@ -76,7 +76,7 @@ impl Holdings {
     ) -> Result<Vec<Job>, AllocError>
         requires width { length publishers.now ≡ length self.now.known }
         requires names { AreShortNames publishers.now group.now }
-        requires asked { All (λ part. is_asked (held_plan self.now) part ≡ true) parts.now }
+        requires asked { All (λ part. may_be_asked_for (held_plan self.now) part ≡ true) parts.now }
         ensures { IfOk result (λ jobs. jobs.items ≡ map (job_at publishers.now group.now self.now) parts.now) }
     {
         let mut jobs = Vec::with_capacity(alloc, parts.len())?;
@@ -101,7 +101,7 @@ impl Holdings {
     ) -> Result<Want, AllocError>
         requires width { length publishers.now ≡ length self.now.known }
         requires names { AreShortNames publishers.now group.now }
-        requires asked { is_asked (held_plan self.now) part ≡ true }
+        requires asked { may_be_asked_for (held_plan self.now) part ≡ true }
         requires listed { IfSome stored (λ r. IsListedBy self.now.store part r.now) }
         requires none { stored ≡ None → part.part ≡ 0 }
         ensures want { IfOk result (λ want. want ≡ want_at publishers.now group.now self.now.store part) }
@@ -122,7 +122,7 @@ impl Holdings {
     ) -> Expected<'w>
         requires width { length publishers.now ≡ length self.now.known }
         requires names { AreShortNames publishers.now group.now }
-        requires asked { is_asked (held_plan self.now) part ≡ true }
+        requires asked { may_be_asked_for (held_plan self.now) part ≡ true }
         requires listed { IfSome stored (λ r. IsListedBy self.now.store part r.now) }
         requires none { stored ≡ None → part.part ≡ 0 }
         ensures expected { result ≡ want_at publishers.now group.now self.now.store part }

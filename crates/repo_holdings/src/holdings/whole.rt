@@ -8,7 +8,7 @@ ghost use Rattle.repo_plan.specs.Parts.{part_cmp};
 ghost use Rattle.repo_object.specs.Packets.{packet_content};
 ghost use Rattle.repo_holdings.specs.Records.{Packet};
 ghost use Rattle.repo_holdings.specs.Contents.{IsDigestIn};
-ghost use Rattle.repo_holdings.specs.Taking.{with_what_came, PartsDiffer};
+ghost use Rattle.repo_holdings.specs.Taking.{with_fetched_for, PartsDiffer};
 ghost use Rattle.repo_holdings.specs.WholeContents.{joined, AreContentsIn, IsWholeIn};
 
 use super::Holdings;
@@ -32,7 +32,7 @@ impl Whole<'_> {
         ensures publication { (result.publisher ≡ self.now.publisher) × (result.seq ≡ self.now.seq) }
         ensures octets { result.octets ≡ min (2 ^ 64 - 1) (length (joined self.now.contents.items)) }
         ensures digest { result.digest ≡ sha256 (joined self.now.contents.items) }
-        ensures reported { (packets : List Packet) → IsWholeIn packets self.now → IsDigestIn packets result }
+        ensures made { (packets : List Packet) → IsWholeIn packets self.now → IsDigestIn packets result }
     {
         let mut octets: u64 = 0;
         let mut digest = Sha256::new();
@@ -64,7 +64,7 @@ impl Holdings {
     ) -> Result<Vec<Whole<'a>>, AllocError>
         requires { PartsDiffer (map (λ job. job.want.part) jobs.now) }
         ensures { IfOk result
-            (λ whole. All (IsWholeIn (with_what_came jobs.now parts.now self.now.store)) whole.items) }
+            (λ whole. All (IsWholeIn (with_fetched_for jobs.now parts.now self.now.store)) whole.items) }
     {
         let mut whole = Vec::new(alloc);
         let mut came: usize = 0;
@@ -123,7 +123,7 @@ impl Holdings {
     ) -> Result<Option<Vec<&'a [u8]>>, AllocError>
         requires { PartsDiffer (map (λ job. job.want.part) jobs.now) }
         ensures contents { IfOk result (λ contents. IfSome contents (λ contents.
-            AreContentsIn (with_what_came jobs.now parts.now self.now.store) (publisher, seq) contents.items)) }
+            AreContentsIn (with_fetched_for jobs.now parts.now self.now.store) (publisher, seq) contents.items)) }
         ensures few { IfOk result (λ contents. IfSome contents (λ contents.
             length (joined contents.items) < 2 ^ 64)) }
     {
@@ -154,7 +154,7 @@ impl Holdings {
     ) -> Option<&'a [u8]>
         requires { PartsDiffer (map (λ job. job.want.part) jobs.now) }
         ensures exact { IfSome result (λ content. content.now ≡ packet_content (unwrap_or
-            (value_of part_cmp (with_what_came jobs.now parts.now self.now.store) part) [])) }
+            (value_of part_cmp (with_fetched_for jobs.now parts.now self.now.store) part) [])) }
         ensures short { IfSome result (λ content. length content.now ≤ 8800) }
     {
         if let Some(content) = stored_content(&self.store, part) {

@@ -2,7 +2,7 @@ ghost use Rattle.std.specs.Prelude.{◌≡◌, ◌<◌, ◌≤◌, ◌^◌, ◌�
 ghost use Rattle.repo_object.specs.Objects.{IsContent};
 ghost use Rattle.repo_process.specs.Arrivals.{is_last};
 ghost use Rattle.repo_member.specs.MemberState.{IsOfGroup, publication_limit};
-ghost use Rattle.repo_member.specs.Blocks.{member_block, member_blocks, CompletesAnObject, ReportsBlock};
+ghost use Rattle.repo_member.specs.Blocks.{member_block, member_blocks, CompletesAnObject, IsBlockAnswer};
 
 use super::Member;
 use super::publishing::{PUBLICATION_LIMIT, Published};
@@ -41,7 +41,7 @@ impl Member {
         requires content { IsContent content.now }
         requires early { now < 2 ^ 62 }
         requires draws { self.old.machine.draws < 2 ^ 62 }
-        ensures reported { IfOk result (ReportsBlock g.now self.old self.new
+        ensures answer { IfOk result (IsBlockAnswer g.now self.old self.new
             (member_block self.old process index content.now)) }
         ensures ok { OnOk result
             (self.new ≡ member_blocks g.now process index content.now now draw self.old) }

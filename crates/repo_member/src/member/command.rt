@@ -201,11 +201,11 @@ impl Member {
     {
         let catalogue = self.held.catalogue();
         let publications = catalogue.named(*self.log.allocator(), &name.view())?;
-        self.held.is_sound();
+        self.held.cite_soundness();
         let mut left = self.held.len();
         for (publisher, seq) in &publications {
             let entry = catalogue.entry(*publisher, *seq).unwrap();
-            left -= 1 + Shape::of(entry.segments as u16).parts_after() as usize;
+            left -= 1 + Shape::of(entry.segments as u16).last_part() as usize;
         }
         Ok(Found {
             publications,
@@ -259,7 +259,7 @@ impl Member {
         let alloc = *self.log.allocator();
         let name = Name::from_short(alloc, name)?;
         let content = write_answer(alloc, answer)?;
-        g.is_sound();
+        g.cite_soundness();
         let key_name = key_name(g.roster().name(self.number))?;
         let key = g.members().key(self.number);
         let packet = write_signed(alloc, &name, None, &content, &key_name, key);

@@ -1,7 +1,7 @@
 ghost use Rattle.std.specs.Prelude.{◌≡◌, ◌⊎◌, ◌↔◌, Ok, Err, Some, None, IsOk, IsErr, IsSomeAnd, IfSome, IfOk, IfErr};
 ghost use Rattle.std.specs.Prelude.{OnOk, OnErr, true, map, take, List};
 ghost use Rattle.std.specs.List.{filter};
-ghost use Rattle.repo_plan.specs.Plan.{claim_of, unclaimed, first, is_after, is_asked, is_wanted};
+ghost use Rattle.repo_plan.specs.Plan.{claim_of, unclaimed, first, is_after, may_be_asked_for, is_wanted};
 ghost use Rattle.repo_plan.specs.Leaps.{some_holds};
 ghost use Rattle.repo_plan.specs.Calls.{IsFetcher};
 ghost use Rattle.repo_object.specs.Verdict.{ring_verdict};
@@ -76,7 +76,7 @@ impl Member {
             return Err(WantFault::FetcherIdle);
         };
         let stored = self.held.parent_for(part, None);
-        g.is_sound();
+        g.cite_soundness();
         Ok(
             self.held
                 .want(alloc, g.roster(), g.name(), part, stored.as_ref())?,
@@ -160,7 +160,7 @@ impl Member {
         ensures { IfOk result (λ jobs. jobs.items ≡ map (job_for g.now self.now)
             (take most (filter (is_after after) (unclaimed (member_plan self.now))))) }
     {
-        g.is_sound();
+        g.cite_soundness();
         self.held.jobs(alloc, g.roster(), g.name(), after, most)
     }
 
@@ -178,7 +178,7 @@ impl Member {
             (take most (filter (some_holds H.has others.now)
             (filter (is_after after) (unclaimed (member_plan self.now)))))) }
     {
-        g.is_sound();
+        g.cite_soundness();
         self.held
             .held_jobs(alloc, g.roster(), g.name(), others, after, most)
     }
@@ -186,7 +186,7 @@ impl Member {
     // The packet that came for a part, if the octets pass for it. Memory is taken for it last.
     fn arrival(&self, g: &Group, part: Part, octets: &[u8]) -> Result<Arrival, AcceptRefusal>
         requires group { IsOfGroup g.now self.now }
-        requires asked { is_asked (member_plan self.now) part ≡ true }
+        requires asked { may_be_asked_for (member_plan self.now) part ≡ true }
         ensures passed { IfOk result (λ _. passed part (ring_verdict (want_of g.now self.now.store part)
             g.now.members.ring octets.now) ≡ Ok part) }
         ensures octets { IfOk result (λ arrival. arrival.packet ≡ octets.now) }
@@ -200,7 +200,7 @@ impl Member {
     {
         let alloc = *self.log.allocator();
         let stored = self.held.parent_for(part, None);
-        g.is_sound();
+        g.cite_soundness();
         let expected = self
             .held
             .expected(g.roster(), g.name(), part, stored.as_ref());

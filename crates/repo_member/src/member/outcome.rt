@@ -1,7 +1,7 @@
 ghost use Rattle.std.specs.Prelude.{◌≡◌, ◌<◌, ◌^◌, count_by, sum_by, is_some, IfOk, OnOk, OnErr, map, vec_len};
 ghost use Rattle.std.specs.List.{All};
 ghost use Rattle.repo_member.specs.MemberState.{IsOfGroup, member_plan, member_takes};
-ghost use Rattle.repo_holdings.specs.Taking.{came, arrival_octets, with_what_came, AreTakable, PartsDiffer};
+ghost use Rattle.repo_holdings.specs.Taking.{came, arrival_octets, with_fetched_for, AreTakable, PartsDiffer};
 ghost use Rattle.repo_holdings.specs.Contents.{IsDigestIn};
 ghost use Rattle.repo_holdings.specs.WholeContents.{IsWholeIn};
 ghost use Rattle.repo_member.specs.Outcomes.{IsOutcome, outcome_of, octets_in};
@@ -53,7 +53,7 @@ impl Member {
     ) -> Result<Vec<Whole<'a>>, AllocError>
         requires { PartsDiffer (map (λ job. job.want.part) jobs.now) }
         ensures { IfOk result
-            (λ whole. All (IsWholeIn (with_what_came jobs.now parts.now self.now.store)) whole.items) }
+            (λ whole. All (IsWholeIn (with_fetched_for jobs.now parts.now self.now.store)) whole.items) }
     {
         self.held.whole_with(alloc, jobs, parts)
     }
@@ -70,7 +70,7 @@ impl Member {
     ) -> Result<FetchCounts, AllocError>
         requires group { IsOfGroup g.now self.old }
         requires outcome { IsOutcome g.now self.old jobs.now parts.now attempts.now }
-        requires digests { All (IsDigestIn (with_what_came jobs.now parts.now self.old.store)) digests.now }
+        requires digests { All (IsDigestIn (with_fetched_for jobs.now parts.now self.old.store)) digests.now }
         ensures ok { OnOk result (self.new ≡ member_takes (outcome_of jobs.now parts.now attempts.now) self.old) }
         ensures parts { IfOk result (λ kept. kept.parts ≡ count_by is_some parts.now) }
         ensures octets { IfOk result (λ kept. kept.octets ≡ sum_by octets_in parts.now) }

@@ -175,7 +175,7 @@ impl Member {
         let seq = self.next_seq();
         let number = self.number;
         // No part of a number that is still to come is held.
-        self.held.is_sound();
+        self.held.cite_soundness();
         let Ok(()) = self.log.reserve(1) else {
             return Err(post);
         };
@@ -206,7 +206,7 @@ impl Member {
             return Ok(None);
         };
         let alloc = *self.log.allocator();
-        g.is_sound();
+        g.cite_soundness();
         let node = g.roster().name(self.number);
         let key = g.members().key(self.number);
         packet_in(alloc, post, part.seq, part.part, node, g.name(), key)
@@ -244,7 +244,7 @@ impl Member {
             prepared.summary prepared.packets.items prepared.sync.items) }
     {
         let alloc = *self.log.allocator();
-        g.is_sound();
+        g.cite_soundness();
         let node = g.roster().name(self.number);
         let key = g.members().key(self.number);
         let packets = shared_packets_of(alloc, object, self.next_seq(), node, g.name(), key)?;
@@ -269,7 +269,7 @@ impl Member {
             prepared.summary prepared.packets.items prepared.sync.items) }
     {
         let alloc = *self.log.allocator();
-        g.is_sound();
+        g.cite_soundness();
         let node = g.roster().name(self.number);
         let key = g.members().key(self.number);
         let seq = self.next_seq();

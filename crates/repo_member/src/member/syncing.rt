@@ -2,11 +2,11 @@ ghost use Rattle.std.specs.Prelude.{◌≡◌, ◌<◌, ◌≤◌, ◌^◌, ◌�
 ghost use Rattle.std.specs.Prelude.{◌≢◌, length, slice_index, IsOk};
 ghost use Rattle.svs_vector.specs.Vectors.{join};
 ghost use Rattle.svs_sync.specs.Suppression.{mode_of};
-ghost use Rattle.svs_sync.specs.KeptVector.{fires_kept};
+ghost use Rattle.svs_sync.specs.SyncStates.{fires_joined};
 ghost use Rattle.repo_member.specs.Groups.{node_limit};
 ghost use Rattle.repo_member.specs.MemberState.{IsOfGroup, member_learns, member_hears, member_fires};
 ghost use Rattle.repo_member.specs.Verdicts.{sync_of, hear_verdict};
-ghost use Rattle.repo_member.specs.Fires.{ReportsFire};
+ghost use Rattle.repo_member.specs.Fires.{IsFireAnswer};
 
 use super::Member;
 use crate::group::Group;
@@ -42,7 +42,7 @@ impl Member {
         requires early { now < 2 ^ 62 }
         requires few { self.old.machine.draws < 2 ^ 62 }
         ensures ok { OnOk result (IsOkAnd (hear_verdict g.now self.old octets.now)
-            (λ reported. self.new ≡ member_hears reported now draw self.old)) }
+            (λ received. self.new ≡ member_hears received now draw self.old)) }
         ensures mode { IfOk result (λ mode. mode ≡ mode_of self.new.machine.heard) }
         ensures refused { IfErr result (λ refusal. (refusal ≡ HearRefusal.NoMemory)
             ⊎ (hear_verdict g.now self.old octets.now ≡ Err refusal)) }
@@ -50,23 +50,23 @@ impl Member {
         ensures sync { result ≢ Err (HearRefusal.Sync SyncRefusal.NoMemory) }
         ensures err { OnErr result (self.new ≡ self.old) }
     {
-        let reported = self.reported(g, octets)?;
-        Ok(self.hear_vector(&reported, now, draw))
+        let received = self.received(g, octets)?;
+        Ok(self.hear_vector(&received, now, draw))
     }
 
     /// The member hears a vector that reports no more publications of it than it made, as `hear` does. It takes no
     /// memory.
-    pub fn hear_vector(&mut self, reported: &Vector, now: u64, draw: u32) -> Mode
-        requires width { length reported.now ≡ length self.old.known }
-        requires members { length reported.now ≤ node_limit }
-        requires own { slice_index reported.now self.old.number ≤ length self.old.log }
+    pub fn hear_vector(&mut self, received: &Vector, now: u64, draw: u32) -> Mode
+        requires width { length received.now ≡ length self.old.known }
+        requires members { length received.now ≤ node_limit }
+        requires own { slice_index received.now self.old.number ≤ length self.old.log }
         requires early { now < 2 ^ 62 }
         requires few { self.old.machine.draws < 2 ^ 62 }
-        ensures new { self.new ≡ member_hears reported.now now draw self.old }
+        ensures new { self.new ≡ member_hears received.now now draw self.old }
         ensures mode { result ≡ mode_of self.new.machine.heard }
     {
-        let mode = self.machine.heard(now, reported, &self.vector, draw);
-        learn(&mut self.vector, &mut self.held, reported);
+        let mode = self.machine.heard(now, received, &self.vector, draw);
+        learn(&mut self.vector, &mut self.held, received);
         mode
     }
 
@@ -76,7 +76,7 @@ impl Member {
     pub fn join_from(&mut self, g: &Group, octets: &[u8]) -> Result<bool, HearRefusal>
         requires group { IsOfGroup g.now self.old }
         ensures ok { OnOk result (IsOkAnd (hear_verdict g.now self.old octets.now)
-            (λ reported. self.new ≡ member_learns reported self.old)) }
+            (λ received. self.new ≡ member_learns received self.old)) }
         ensures changed { IfOk result (λ changed. IsFalse changed ↔ (self.new.known ≡ self.old.known)) }
         ensures refused { IfErr result (λ refusal. (refusal ≡ HearRefusal.NoMemory)
             ⊎ (hear_verdict g.now self.old octets.now ≡ Err refusal)) }
@@ -84,20 +84,20 @@ impl Member {
         ensures sync { result ≢ Err (HearRefusal.Sync SyncRefusal.NoMemory) }
         ensures err { OnErr result (self.new ≡ self.old) }
     {
-        let reported = self.reported(g, octets)?;
-        Ok(self.join_vector(&reported))
+        let received = self.received(g, octets)?;
+        Ok(self.join_vector(&received))
     }
 
     /// The member learns a vector that reports no more publications of it than it made, as `join_from` does. It takes
     /// no memory.
-    pub fn join_vector(&mut self, reported: &Vector) -> bool
-        requires width { length reported.now ≡ length self.old.known }
-        requires members { length reported.now ≤ node_limit }
-        requires own { slice_index reported.now self.old.number ≤ length self.old.log }
-        ensures new { self.new ≡ member_learns reported.now self.old }
+    pub fn join_vector(&mut self, received: &Vector) -> bool
+        requires width { length received.now ≡ length self.old.known }
+        requires members { length received.now ≤ node_limit }
+        requires own { slice_index received.now self.old.number ≤ length self.old.log }
+        ensures new { self.new ≡ member_learns received.now self.old }
         ensures changed { IsFalse result ↔ (self.new.known ≡ self.old.known) }
     {
-        learn(&mut self.vector, &mut self.held, reported)
+        learn(&mut self.vector, &mut self.held, received)
     }
 
     /// The member's timer fires.
@@ -105,7 +105,7 @@ impl Member {
         requires group { IsOfGroup g.now self.old }
         requires early { now < 2 ^ 62 }
         requires few { self.old.machine.draws < 2 ^ 62 }
-        ensures fire { IfOk result (ReportsFire (fires_kept now self.old.known self.old.machine)
+        ensures fire { IfOk result (IsFireAnswer (fires_joined now self.old.known self.old.machine)
             (sync_of g.now self.old.number self.old.known)) }
         ensures ok { OnOk result (self.new ≡ member_fires now draw self.old) }
         ensures err { OnErr result (self.new ≡ self.old) }
@@ -129,36 +129,36 @@ impl Member {
 
     // The vector that octets have, if they are a sync Interest of the group and report no more publications of this
     // member than it made. Memory is taken for it last.
-    fn reported(&self, g: &Group, octets: &[u8]) -> Result<Vector, HearRefusal>
+    fn received(&self, g: &Group, octets: &[u8]) -> Result<Vector, HearRefusal>
         requires { IsOfGroup g.now self.now }
-        ensures reported { IfOk result (λ reported. hear_verdict g.now self.now octets.now ≡ Ok reported) }
-        ensures own { IfOk result (λ reported. slice_index reported self.now.number ≤ length self.now.log) }
-        ensures width { IfOk result (λ reported. length reported ≡ length self.now.known) }
-        ensures members { IfOk result (λ reported. length reported ≤ node_limit) }
+        ensures received { IfOk result (λ received. hear_verdict g.now self.now octets.now ≡ Ok received) }
+        ensures own { IfOk result (λ received. slice_index received self.now.number ≤ length self.now.log) }
+        ensures width { IfOk result (λ received. length received ≡ length self.now.known) }
+        ensures members { IfOk result (λ received. length received ≤ node_limit) }
         ensures refused { IfErr result (λ refusal. (refusal ≡ HearRefusal.NoMemory)
             ⊎ (hear_verdict g.now self.now octets.now ≡ Err refusal)) }
         ensures memory { result ≡ Err HearRefusal.NoMemory → IsOk (hear_verdict g.now self.now octets.now) }
         ensures sync { result ≢ Err (HearRefusal.Sync SyncRefusal.NoMemory) }
     {
-        let reported = match g.check_reported(octets) {
-            Ok((_, reported)) => reported,
+        let received = match g.check_numbers(octets) {
+            Ok((_, received)) => received,
             Err(refusal) => return Err(HearRefusal::Sync(refusal)),
         };
-        self.not_ahead(reported.get(self.number))?;
-        Ok(reported.to_vector(*self.log.allocator())?)
+        self.not_ahead(received.get(self.number))?;
+        Ok(received.to_vector(*self.log.allocator())?)
     }
 
     // No more publications of this member are reported than it made.
-    fn not_ahead(&self, reported: u16) -> Result<(), HearRefusal>
-        ensures ok { OnOk result (reported ≤ length self.now.log) }
+    fn not_ahead(&self, received: u16) -> Result<(), HearRefusal>
+        ensures ok { OnOk result (received ≤ length self.now.log) }
         ensures ahead { IfErr result (λ refusal.
-            (refusal ≡ HearRefusal.OwnNumberAhead (length self.now.log) reported) × (length self.now.log < reported)) }
+            (refusal ≡ HearRefusal.OwnNumberAhead (length self.now.log) received) × (length self.now.log < received)) }
     {
         let own = self.vector.get(self.number);
-        if reported > own {
+        if received > own {
             return Err(HearRefusal::OwnNumberAhead {
                 own: u32::from(own),
-                told: u32::from(reported),
+                told: u32::from(received),
             });
         }
         Ok(())
@@ -166,18 +166,18 @@ impl Member {
 }
 
 // What is reported is known from now on. The answer is whether more is known than before.
-fn learn(vector: &mut Vector, held: &mut Holdings, reported: &Vector) -> bool
-    requires width { length reported.now ≡ length vector.old }
-    requires few { length reported.now ≤ node_limit }
+fn learn(vector: &mut Vector, held: &mut Holdings, received: &Vector) -> bool
+    requires width { length received.now ≡ length vector.old }
+    requires few { length received.now ≤ node_limit }
     requires known { held.old.known ≡ vector.old }
-    ensures vector { vector.new ≡ join vector.old reported.now }
-    ensures held { held.new ≡ record held.old { known = join vector.old reported.now } }
+    ensures vector { vector.new ≡ join vector.old received.now }
+    ensures held { held.new ≡ record held.old { known = join vector.old received.now } }
     ensures changed { IsFalse result ↔ (vector.new ≡ vector.old) }
 {
-    for member in 0..reported.members() as u32 {
-        held.raise(member, reported.get(member));
+    for member in 0..received.members() as u32 {
+        held.raise(member, received.get(member));
     }
-    vector.join(reported)
+    vector.join(received)
 }
 
 // The sync Interest by which a member tells a vector.
@@ -191,7 +191,7 @@ pub(super) fn sync_of(
     requires width { length vector.now ≡ length g.now.members.names }
     ensures { IfOk result (λ sync. sync.items ≡ sync_of g.now number vector.now) }
 {
-    g.is_sound();
+    g.cite_soundness();
     let key_name = key_name(g.roster().name(number))?;
     let key = g.members().key(number);
     make_sync(alloc, g.name(), vector, g.roster(), &key_name, key)

@@ -15,7 +15,7 @@ impl Mirror {
 
     /// How many parts the mirror wants. Takes no look-up.
     //
-    // `is_sound` states which parts these are.
+    // `cite_soundness` states which parts these are.
     pub fn wanted_count(&self) -> u64
         ensures { result ≡ length (wanted (fetch_plan self.now)) }
     {

@@ -13,11 +13,11 @@ ghost use Rattle.repo_holdings.specs.StoredParents.{lists_at};
 ghost use Rattle.repo_holdings.specs.Gaining.{summary_in, IsArrival};
 ghost use Rattle.repo_holdings.specs.Hiding.{with_hidden};
 ghost use Rattle.repo_holdings.specs.HoldingsState.{held_plan};
-ghost use Rattle.repo_holdings.specs.Taking.{came, takes_too, AreTakable};
+ghost use Rattle.repo_holdings.specs.Taking.{came, after_outcome, AreTakable};
 ghost use Rattle.repo_member.specs.Outcomes.{outcome_of};
-ghost use Rattle.repo_mirror.specs.KeptPackets.{CameChecked};
+ghost use Rattle.repo_mirror.specs.PacketsFor.{IsCheckedFetch};
 ghost use Rattle.repo_mirror.specs.MirrorState.{fetch_plan};
-ghost use Rattle.repo_mirror.specs.Passing.{is_fetched_kept, that_are_kept, passed_over, mirror_takes, IsUnknownIn};
+ghost use Rattle.repo_mirror.specs.Passing.{is_fetch_for, fetches_for, passed_over, mirror_takes, IsUnknownIn};
 ghost use Rattle.repo_mirror.specs.MirrorOutcomes.{IsMirrorOutcome};
 
 use super::Mirror;
@@ -68,10 +68,10 @@ impl Mirror {
         requires outcome { IsMirrorOutcome self.now jobs.now parts.now attempts.now }
         requires few { length jobs.now < 2 ^ 32 }
         ensures kept { IfOk result (λ sorted. map came sorted.kept.items
-            ≡ that_are_kept self.now.pattern (outcome_of jobs.now parts.now attempts.now)) }
+            ≡ fetches_for self.now.pattern (outcome_of jobs.now parts.now attempts.now)) }
         ensures passed { IfOk result (λ sorted. sorted.passed.items
             ≡ passed_over self.now.pattern (outcome_of jobs.now parts.now attempts.now)) }
-        ensures checked { IfOk result (λ sorted. All CameChecked (map came sorted.kept.items)) }
+        ensures checked { IfOk result (λ sorted. All IsCheckedFetch (map came sorted.kept.items)) }
         ensures takable { IfOk result (λ sorted. AreTakable (fetch_plan self.now) self.now.store sorted.kept.items) }
         ensures few { IfOk result (λ sorted. vec_len sorted.kept < 2 ^ 32) }
         ensures unknown { IfOk result (λ sorted. (pair : Pair) → contains pair_cmp sorted.passed.items pair ≡ true
@@ -79,12 +79,12 @@ impl Mirror {
         ensures others { IfOk result (λ sorted.
             All (λ x. contains pair_cmp sorted.passed.items (pair_of x.part) ≡ false) sorted.kept.items) }
     {
-        self.held.is_sound();
+        self.held.cite_soundness();
         let mut kept = Vec::with_capacity(self.alloc, jobs.len())?;
         let mut passed = Vec::new(self.alloc);
         for ((job, checked), tries) in jobs.iter().zip(parts).zip(attempts) {
             let tried = tried(self.alloc, job, checked.as_ref(), *tries)?;
-            if is_kept(filter, &self.pattern, &tried) {
+            if is_for(filter, &self.pattern, &tried) {
                 kept.push(tried)?;
             } else {
                 let part = tried.part;
@@ -118,8 +118,8 @@ fn tried(
     ensures arrival { IfOk result (λ tried. (packets : List Packet)
         → job.now.want.lists ≡ lists_at packets job.now.want.part
         → IfSome tried.arrival (λ a. IsArrival packets tried.part a.packet a.summary)) }
-    ensures reported { IfOk result (λ tried. IfSome tried.arrival (λ a. a.summary ≡ summary_in tried.part a.packet)) }
-    ensures checked { IfOk result (λ tried. CameChecked (came tried)) }
+    ensures received { IfOk result (λ tried. IfSome tried.arrival (λ a. a.summary ≡ summary_in tried.part a.packet)) }
+    ensures checked { IfOk result (λ tried. IsCheckedFetch (came tried)) }
 {
     let arrival = match checked {
         Some(checked) => Some(arrived(alloc, checked)?),
@@ -135,7 +135,7 @@ fn tried(
 // The packet that was checked for the want of a part, as it comes for that part.
 fn arrived(alloc: Global, checked: &Checked<'_>) -> Result<Arrival, AllocError>
     ensures octets { IfOk result (λ arrival. arrival.packet ≡ checked.now.octets) }
-    ensures reported { IfOk result (λ arrival. arrival.summary ≡ summary_in checked.now.want.part arrival.packet) }
+    ensures received { IfOk result (λ arrival. arrival.summary ≡ summary_in checked.now.want.part arrival.packet) }
     ensures passed { OnOk result (IsChecked checked.now) }
     ensures arrival { IfOk result (λ arrival. (packets : List Packet)
         → checked.now.want.lists ≡ lists_at packets checked.now.want.part
@@ -146,9 +146,9 @@ fn arrived(alloc: Global, checked: &Checked<'_>) -> Result<Arrival, AllocError>
 }
 
 // Whether what came is kept: all but the record of an object that the pattern isn't for.
-fn is_kept(filter: &Filter, pattern: &Pattern, tried: &Tried) -> bool
+fn is_for(filter: &Filter, pattern: &Pattern, tried: &Tried) -> bool
     requires { IfSome tried.now.arrival (λ a. a.summary ≡ summary_in tried.now.part a.packet) }
-    ensures { result ≡ is_fetched_kept pattern.now (came tried.now) }
+    ensures { result ≡ is_fetch_for pattern.now (came tried.now) }
 {
     let Some(arrival) = &tried.arrival else {
         return true;
@@ -195,7 +195,7 @@ fn take_sorted(
     requires unknown { (pair : Pair) → contains pair_cmp passed.now pair ≡ true
         → IsUnknownIn (held_plan held.old) pair }
     requires others { All (λ x. contains pair_cmp passed.now (pair_of x.part) ≡ false) kept.items }
-    ensures ok { OnOk result (held.new ≡ takes_too (map came kept.items) (record held.old {
+    ensures ok { OnOk result (held.new ≡ after_outcome (map came kept.items) (record held.old {
       hidden = with_hidden passed.now held.old.hidden;
       spare = max held.old.spare (vec_len kept);
     })) }

@@ -1,8 +1,8 @@
 ghost use Rattle.std.specs.Prelude.{◌≡◌, ◌+◌, ◌-◌, ◌≤◌, ◌<◌, true, false, not, length, slice_index, Some};
 ghost use Rattle.std.specs.List.{filter};
 ghost use Rattle.sorted_lists.specs.Runs.{has_number};
-ghost use Rattle.repo_plan.specs.Parts.{IsShape, parts_after, part_of};
-ghost use Rattle.repo_plan.specs.Plan.{wanted, is_in, is_asked, is_done, shape_of, knows};
+ghost use Rattle.repo_plan.specs.Parts.{IsShape, last_part, part_of};
+ghost use Rattle.repo_plan.specs.Plan.{wanted, is_in, may_be_asked_for, is_done, shape_of, knows};
 ghost use Rattle.repo_plan.specs.Counts.{how_many};
 
 use super::Plan;
@@ -32,8 +32,8 @@ impl Plan {
         let publication = (publisher, seq);
         match self.shape(publisher, seq) {
             None => 0,
-            Some(shape) if self.done.contains(publication) => shape.parts_after() + 1,
-            Some(shape) => count_in(&self.held, publication, 0, shape.parts_after() + 1),
+            Some(shape) if self.done.contains(publication) => shape.last_part() + 1,
+            Some(shape) => count_in(&self.held, publication, 0, shape.last_part() + 1),
         }
     }
 
@@ -56,13 +56,13 @@ impl Plan {
         requires known { knows self.now publication ≡ true }
         requires shape { shape_of self.now publication ≡ Some shape }
         requires sized { IsShape shape }
-        ensures { result ≡ how_many (λ x. is_asked self.now (part_of publication x)) 0 (parts_after shape + 1) }
+        ensures { result ≡ how_many (λ x. may_be_asked_for self.now (part_of publication x)) 0 (last_part shape + 1) }
     {
-        self.is_sound();
-        let reported = shape.parts_after();
+        self.cite_soundness();
+        let last_number = shape.last_part();
         let mut count = 0;
         let mut passed = 0;
-        while passed <= reported {
+        while passed <= last_number {
             let part = Part {
                 publisher: publication.0,
                 seq: publication.1,

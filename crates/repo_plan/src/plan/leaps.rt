@@ -3,7 +3,7 @@ ghost use Rattle.std.specs.List.{filter};
 ghost use Rattle.sorted_lists.specs.Least.{lesser_by};
 ghost use Rattle.repo_plan.specs.declared.part.Part.{Part};
 ghost use Rattle.repo_plan.specs.Parts.{pair_of, part_cmp};
-ghost use Rattle.repo_plan.specs.Plan.{knows, holds, hides, can_be_asked, shape_of, is_unclaimed, unclaimed, first};
+ghost use Rattle.repo_plan.specs.Plan.{knows, holds, hides, is_listed_part, shape_of, is_unclaimed, unclaimed, first};
 ghost use Rattle.repo_plan.specs.Plan.{is_after, is_claim_of};
 ghost use Rattle.repo_plan.specs.Leaps.{is_from, some_holds, IsLeastFrom, IsHeldHere, IsNextKnown, IsLeastLater};
 
@@ -38,7 +38,7 @@ impl Plan {
         ensures list { result ≡ first (filter (is_from part) self.now.held) }
         ensures least { IsLeastFrom (holds self.now) part result }
     {
-        self.is_sound();
+        self.cite_soundness();
         let here = self.held_here(part);
         if here.is_some() {
             here
@@ -115,12 +115,12 @@ impl Plan {
 
     // Whether the part could be asked for where its number is known, and is neither held nor of a hidden publication.
     fn is_open(&self, part: Part) -> bool
-        ensures { result ≡ (can_be_asked self.now.held (shape_of self.now (pair_of part)) part
+        ensures { result ≡ (is_listed_part self.now.held (shape_of self.now (pair_of part)) part
             && (not (holds self.now part) && not (hides self.now (pair_of part)))) }
     {
         match self.shape(part.publisher, part.seq) {
             Some(shape) => {
-                u32::from(part.part) <= shape.parts_after()
+                u32::from(part.part) <= shape.last_part()
                     && self.is_listed(part, shape)
                     && !self.holds(part)
             }
@@ -134,7 +134,7 @@ impl Plan {
     {
         let publication = (part.publisher, part.seq);
         match self.shape(part.publisher, part.seq) {
-            Some(shape) if u32::from(part.part) <= shape.parts_after() => {
+            Some(shape) if u32::from(part.part) <= shape.last_part() => {
                 if self.done.contains(publication) {
                     return Some(part);
                 }
@@ -151,7 +151,7 @@ impl Plan {
     fn record_after(&self, part: Part) -> Option<Part>
         ensures { IsLeastLater self.now part result }
     {
-        self.is_sound();
+        self.cite_soundness();
         let Some(next) = self.next_known(part.publisher, part.seq) else {
             return None;
         };

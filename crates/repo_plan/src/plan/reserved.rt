@@ -1,12 +1,12 @@
 ghost use Rattle.std.specs.Prelude.{◌≡◌, ◌+◌, ◌<◌, ◌==◌, true, false, not, is_some, IfSome, OnOk, OnErr};
-ghost use Rattle.repo_plan.specs.Plan.{holds, hides, is_asked, is_claimed, claims_part_in, attempts_of};
-ghost use Rattle.repo_plan.specs.Plan.{holds_too, hides_too, with_attempts, with_room, uses_room};
+ghost use Rattle.repo_plan.specs.Plan.{holds, hides, may_be_asked_for, is_claimed, claims_part_in, attempts_of};
+ghost use Rattle.repo_plan.specs.Plan.{after_hold, after_hide, with_attempts, with_room, uses_room};
 ghost use Rattle.repo_plan.specs.Parts.{IsShape, pair_of};
 
 use super::Plan;
 use super::whole::{note_held, note_shape};
 use crate::part::Part;
-use crate::shape::{Shape, listed_by, reported_by};
+use crate::shape::{Shape, last_known_part, listed_by};
 use sorted_lists::table;
 use std::alloc::AllocError;
 
@@ -47,11 +47,11 @@ impl Plan {
         requires spare { 0 < self.old.spare }
         requires shape { is_some shape ≡ (part.part == 0) }
         requires sized { IfSome shape IsShape }
-        requires asked { is_asked self.old part ≡ true }
+        requires asked { may_be_asked_for self.old part ≡ true }
         requires not_hidden { hides self.old (pair_of part) ≡ false }
         requires not_claimed { is_claimed self.old part ≡ false }
         ensures fresh { result ≡ not (holds self.old part) }
-        ensures new { self.new ≡ uses_room (holds_too part shape self.old) }
+        ensures new { self.new ≡ uses_room (after_hold part shape self.old) }
     {
         let held = self.holds(part);
         self.spare -= 1;
@@ -65,7 +65,7 @@ impl Plan {
             &mut self.done,
             &mut self.held,
             (publication, part.part),
-            reported_by(shape),
+            last_known_part(shape),
         );
         self.held_count += 1;
         self.wanted_count = self.wanted_count - 1 + u64::from(listed_by(shape, part.part));
@@ -76,7 +76,7 @@ impl Plan {
     pub fn hide_reserved(&mut self, publisher: u32, seq: u16)
         requires spare { 0 < self.old.spare }
         requires not_claimed { claims_part_in self.old (publisher, seq) ≡ false }
-        ensures { self.new ≡ uses_room (hides_too (publisher, seq) self.old) }
+        ensures { self.new ≡ uses_room (after_hide (publisher, seq) self.old) }
     {
         let publication = (publisher, seq);
         let held = self.held_in(publisher, seq);

@@ -2,7 +2,8 @@ ghost use Rattle.std.specs.Prelude.{ℕ, ◌≡◌, ◌<◌, ◌≤◌, true, fa
 ghost use Rattle.std.specs.List.{list_any, filter, flat_map};
 ghost use Rattle.repo_plan.specs.declared.part.Part.{Part};
 ghost use Rattle.repo_plan.specs.Parts.{IsShape, pair_of, record_of, part_of, parent};
-ghost use Rattle.repo_plan.specs.Plan.{knows, holds, hides, is_asked, is_claim_of, is_done, unclaimed, first, is_after};
+ghost use Rattle.repo_plan.specs.Plan.{knows, holds, hides, may_be_asked_for, is_claim_of, is_done, unclaimed, first};
+ghost use Rattle.repo_plan.specs.Plan.{is_after};
 ghost use Rattle.repo_plan.specs.Plan.{is_next, parts_known, pairs_of, shape_of};
 
 use super::Plan;
@@ -117,12 +118,12 @@ impl Plan {
         ensures { result ≡ first (filter (is_next self.now after)
             (parts_known self.now publication)) }
     {
-        let reported = shape.parts_after();
+        let last_number = shape.last_part();
         let mut passed = passed_parts(publication, after);
-        while passed <= reported {
+        while passed <= last_number {
             // The next part that is not held.
             let x = self.held.gap_from((publication, passed as u16));
-            if x > reported {
+            if x > last_number {
                 return None;
             }
             let part = Part {
@@ -156,7 +157,7 @@ impl Plan {
 
     // Whether a part that is asked for and not held is greater than `after` and claimed by no fetcher.
     fn is_next(&self, part: Part, after: Option<Part>) -> bool
-        requires asked { is_asked self.now part ≡ true }
+        requires asked { may_be_asked_for self.now part ≡ true }
         requires not_held { holds self.now part ≡ false }
         requires not_hidden { hides self.now (pair_of part) ≡ false }
         ensures { result ≡ is_next self.now after part }

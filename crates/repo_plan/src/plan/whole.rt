@@ -30,16 +30,16 @@ pub(super) fn note_held(
     done: &mut Runs<u32>,
     held: &mut Runs<(u32, u16)>,
     number: ((u32, u16), u16),
-    reported: u32,
+    last_number: u32,
 )
     requires done { IsRuns nat_cmp done.old.runs }
     requires spare_of_done { 0 < done.old.spare }
     requires spare_of_held { 0 < held.old.spare }
     ensures done { IsRuns nat_cmp done.new.runs }
-    ensures noted { (q : Number Pair) → (q.0 ≡ number.0 → q.1 ≤ reported) → is_noted done.new.runs held.new.runs q
+    ensures noted { (q : Number Pair) → (q.0 ≡ number.0 → q.1 ≤ last_number) → is_noted done.new.runs held.new.runs q
         ≡ (eq_by_cmp (number_cmp pair_cmp) q number || is_noted done.old.runs held.old.runs q) }
     ensures whole { (q : Pair) → has_number nat_cmp done.new q
-        ≡ ((eq_by_cmp pair_cmp q number.0 && are_noted done.new.runs held.new.runs number.0 reported)
+        ≡ ((eq_by_cmp pair_cmp q number.0 && are_noted done.new.runs held.new.runs number.0 last_number)
         || has_number nat_cmp done.old q) }
     ensures kept { (q : Number Pair) → has_number pair_cmp held.new q ≡ true
         → (eq_by_cmp (number_cmp pair_cmp) q number || has_number pair_cmp held.old q) ≡ true }
@@ -48,7 +48,7 @@ pub(super) fn note_held(
 {
     held.insert(number);
     let publication = number.0;
-    if held.gap_from((publication, 0)) > reported {
+    if held.gap_from((publication, 0)) > last_number {
         held.remove_all(publication);
         done.insert(publication);
     }

@@ -1,7 +1,7 @@
 // What the lines of mirrors do.
 ghost use Rattle.std.specs.Prelude.{◌≡◌, ◌<◌, ◌≤◌, ◌+◌, ◌++◌, ◌∷◌, [], length, map, string_bytes, true, false, None};
 ghost use Rattle.std.specs.Prelude.{IfErr, IfOk, OnOk, slice_set};
-ghost use Rattle.group_model.specs.World.{opening_world, sent_at};
+ghost use Rattle.group_model.specs.World.{initial_world, sent_at};
 ghost use Rattle.group_model.specs.Refusals.{unless_sent};
 ghost use Rattle.bench_world.specs.EventValues.{event_value};
 ghost use Rattle.bench_world.specs.Steps.{IsReady};
@@ -13,9 +13,9 @@ ghost use Rattle.script_report.specs.Texts.{mdeliver_text, mfetch_text};
 ghost use Rattle.script_story.specs.Mirrors.{asked_by, attempts_made, gets, mirror_as, mirror_begins, mirror_fetches};
 ghost use Rattle.script_story.specs.Mirrors.{mirror_hears, mirror_of, mirror_settles, mirrored_entries};
 ghost use Rattle.script_story.specs.StatedEvents.{pattern_for, publisher_number};
-ghost use Rattle.script_story.specs.ReportedTexts.{listing_text};
-ghost use Rattle.script_story.specs.Judging.{begun_world, fetched_by, env_by, heard_by, listed_by, mirror_fetched};
-ghost use Rattle.script_story.specs.Judging.{mirror_heard, mirror_listed, mirrors_after, says};
+ghost use Rattle.script_story.specs.ReportTexts.{listing_text};
+ghost use Rattle.script_story.specs.Evaluation.{begun_world, fetched_by, env_by, heard_by, listed_by, mirror_fetched};
+ghost use Rattle.script_story.specs.Evaluation.{mirror_heard, mirror_listed, mirrors_after, accepted};
 ghost use Rattle.script_lines.specs.RunStates.{FetchFits, IsBeforeEvents, IsDeclared, IsRunState, IsSameGroup};
 ghost use Rattle.script_lines.specs.RunStates.{IsLineError, IsLineErrorOf, LineIsChecked, MirrorIsThere, labels_of};
 ghost use Rattle.script_lines.specs.RunStates.{mirrors_in};
@@ -76,7 +76,7 @@ impl RunState {
         requires empty { report.old.items ≡ [] }
         ensures taken { OnOk result (heard_by (begun_world (D.draw draws.now) (state_of_run self.old))
             (state_of_run self.old) self.old.words (stated (line.Mdeliver k label)).values
-            ≡ says report.new.items (state_of_run self.new)) }
+            ≡ accepted report.new.items (state_of_run self.new)) }
         ensures stopped { IfErr result (IsLineError (heard_by (begun_world (D.draw draws.now) (state_of_run self.old))
             (state_of_run self.old) self.old.words (stated (line.Mdeliver k label)).values)) }
         ensures is { OnOk result (IsRunState self.new) }
@@ -97,7 +97,7 @@ impl RunState {
         requires there { MirrorIsThere self.old i }
         requires empty { report.old.items ≡ [] }
         ensures taken { OnOk result (mirror_heard (begun_world (D.draw draws.now) (state_of_run self.old))
-            (state_of_run self.old) self.old.words k i label.now ≡ says report.new.items (state_of_run self.new)) }
+            (state_of_run self.old) self.old.words k i label.now ≡ accepted report.new.items (state_of_run self.new)) }
         ensures stopped { IfErr result (IsLineError (mirror_heard
             (begun_world (D.draw draws.now) (state_of_run self.old))
             (state_of_run self.old) self.old.words k i label.now)) }
@@ -129,7 +129,7 @@ impl RunState {
         ensures taken { OnOk result (fetched_by (env_by (D.draw draws.now) (N.passes net.now))
             (begun_world (D.draw draws.now) (state_of_run self.old))
             (state_of_run self.old) self.old.words (stated (line.Mfetch label workers tries loss)).values
-            ≡ says report.new.items (state_of_run self.new)) }
+            ≡ accepted report.new.items (state_of_run self.new)) }
         ensures stopped { IfErr result (λ error. error ≡ LineError.NoMemory) }
         ensures is { OnOk result (IsRunState self.new) }
         ensures steps { OnOk result (steps self.new ≤ steps self.old + 1) }
@@ -156,7 +156,7 @@ impl RunState {
         requires empty { report.old.items ≡ [] }
         ensures taken { OnOk result (mirror_fetched (env_by (D.draw draws.now) (N.passes net.now))
             (begun_world (D.draw draws.now) (state_of_run self.old)) (state_of_run self.old) self.old.words i
-            label.now tries loss ≡ says report.new.items (state_of_run self.new)) }
+            label.now tries loss ≡ accepted report.new.items (state_of_run self.new)) }
         ensures stopped { IfErr result (λ error. error ≡ LineError.NoMemory) }
         ensures is { OnOk result (IsRunState self.new) }
         ensures steps { OnOk result (steps self.new ≤ steps self.old + 1) }
@@ -179,7 +179,7 @@ impl RunState {
         requires empty { report.old.items ≡ [] }
         ensures taken { OnOk result (listed_by (begun_world (D.draw draws.now) (state_of_run self.old))
             (state_of_run self.old) self.old.words (stated (line.Mcatalogue label)).values
-            ≡ says report.new.items (state_of_run self.new)) }
+            ≡ accepted report.new.items (state_of_run self.new)) }
         ensures stopped { IfErr result (λ error. error ≡ LineError.NoMemory) }
         ensures is { OnOk result (IsRunState self.new) }
         ensures steps { OnOk result (steps self.new ≡ steps self.old) }
@@ -198,7 +198,7 @@ impl RunState {
         requires there { MirrorIsThere self.old i }
         requires empty { report.old.items ≡ [] }
         ensures taken { OnOk result (mirror_listed (begun_world (D.draw draws.now) (state_of_run self.old))
-            (state_of_run self.old) self.old.words i label.now ≡ says report.new.items (state_of_run self.new)) }
+            (state_of_run self.old) self.old.words i label.now ≡ accepted report.new.items (state_of_run self.new)) }
         ensures stopped { IfErr result (λ error. error ≡ LineError.NoMemory) }
         ensures is { OnOk result (IsRunState self.new) }
         ensures steps { OnOk result (steps self.new ≡ steps self.old) }
@@ -220,7 +220,7 @@ pub(super) fn begin_world<D: Draws>(
 ) -> Result<World, LineError>
     requires few { length patterns.items ≤ 4 }
     ensures world { IfOk result (λ world.
-        world_of world ≡ opening_world (drawing (D.draw draws.now)) (length group.members.names)) }
+        world_of world ≡ initial_world (drawing (D.draw draws.now)) (length group.members.names)) }
     ensures keys { IfOk result (λ world. world.keys ≡ group) }
     ensures mirrors { IfOk result (λ world. map mirror_as world.mirrors
         ≡ map (mirror_begins (length group.members.names)) patterns.items) }
@@ -241,7 +241,7 @@ fn add_mirror(world: &mut World, pattern: Pattern) -> Result<(), LineError>
         ++ mirror_begins (length world.old.keys.members.names) pattern ∷ []) }
     ensures err { IfErr result (λ error. error ≡ LineError.NoMemory) }
 {
-    world.is_sound();
+    world.cite_soundness();
     world.add_mirror(pattern).map_err(MirrorFault::only_memory)?;
     Ok(())
 }
@@ -298,7 +298,7 @@ fn fetch<N: Net + Sync, R: Threads + Sync>(
     let filter = Filter::new(|pattern: &Pattern, publisher: u32, name: &Name| {
         accepts(pattern, publisher, name)
     });
-    world.is_sound();
+    world.cite_soundness();
     let (planned, kept, attempts) = world.mirror_fetch(rt, i, workers, tries, loss, net, &filter)?;
     put_mfetch(report, label, u64::from(planned), u64::from(kept), attempts)?;
     Ok(())
@@ -354,7 +354,7 @@ fn settle_mirrors<R: Threads + Sync>(
     let filter = Filter::new(|pattern: &Pattern, publisher: u32, name: &Name| {
         accepts(pattern, publisher, name)
     });
-    world.is_sound();
+    world.cite_soundness();
     world.settle_mirrors(rt, workers, &filter)?;
     Ok(())
 }

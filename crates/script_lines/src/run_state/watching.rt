@@ -10,8 +10,9 @@ ghost use Rattle.script_lang.specs.Forms.{stated};
 ghost use Rattle.script_report.specs.Texts.{watch_text};
 ghost use Rattle.repo_watch.specs.Watching.{after_add, after_take, most_watchers, watch_of};
 ghost use Rattle.script_report.specs.declared.refusal.Refusal.TheVariants as refusal;
-ghost use Rattle.script_story.specs.ReportedTexts.{news_in, news_text};
-ghost use Rattle.script_story.specs.Judging.{begun_world, says, told_at, told_by, watched, watched_by, watchers_of};
+ghost use Rattle.script_story.specs.ReportTexts.{news_in, news_text};
+ghost use Rattle.script_story.specs.Evaluation.{begun_world, accepted, told_at, told_by, watched, watched_by};
+ghost use Rattle.script_story.specs.Evaluation.{watchers_of};
 ghost use Rattle.script_lines.specs.RunStates.{IsAtEvent, IsRunState, IsLineError, IsStopWhere, LineIsChecked};
 ghost use Rattle.script_lines.specs.RunStates.{state_of_run, steps};
 
@@ -43,7 +44,7 @@ impl RunState {
         requires empty { report.old.items ≡ [] }
         ensures taken { OnOk result (watched_by (begun_world (D.draw draws.now) (state_of_run self.old))
             (state_of_run self.old) self.old.words (stated (line.Watch label publisher prefix)).values
-            ≡ says report.new.items (state_of_run self.new)) }
+            ≡ accepted report.new.items (state_of_run self.new)) }
         ensures stopped { IfErr result (IsLineError (watched_by (begun_world (D.draw draws.now) (state_of_run self.old))
             (state_of_run self.old) self.old.words (stated (line.Watch label publisher prefix)).values)) }
         ensures is { OnOk result (IsRunState self.new) }
@@ -66,7 +67,7 @@ impl RunState {
         requires empty { report.old.items ≡ [] }
         ensures taken { OnOk result (told_by (begun_world (D.draw draws.now) (state_of_run self.old))
             (state_of_run self.old) self.old.words (stated (line.Told label number)).values
-            ≡ says report.new.items (state_of_run self.new)) }
+            ≡ accepted report.new.items (state_of_run self.new)) }
         ensures stopped { IfErr result (IsLineError (told_by (begun_world (D.draw draws.now) (state_of_run self.old))
             (state_of_run self.old) self.old.words (stated (line.Told label number)).values)) }
         ensures is { OnOk result (IsRunState self.new) }
@@ -89,7 +90,7 @@ impl RunState {
         requires empty { report.old.items ≡ [] }
         ensures taken { OnOk result
             (watched (begun_world (D.draw draws.now) (state_of_run self.old)) (state_of_run self.old) self.old.words
-            m pattern ≡ says report.new.items (state_of_run self.new)) }
+            m pattern ≡ accepted report.new.items (state_of_run self.new)) }
         ensures stopped { IfErr result (IsLineError
             (watched (begun_world (D.draw draws.now) (state_of_run self.old)) (state_of_run self.old) self.old.words
             m pattern)) }
@@ -117,7 +118,7 @@ impl RunState {
         requires empty { report.old.items ≡ [] }
         ensures taken { OnOk result
             (told_at (begun_world (D.draw draws.now) (state_of_run self.old)) (state_of_run self.old) self.old.words
-            m number ≡ says report.new.items (state_of_run self.new)) }
+            m number ≡ accepted report.new.items (state_of_run self.new)) }
         ensures stopped { IfErr result (IsLineError
             (told_at (begun_world (D.draw draws.now) (state_of_run self.old)) (state_of_run self.old) self.old.words
             m number)) }
@@ -159,7 +160,7 @@ fn add_watcher(
     ensures stopped { IfErr result
         (IsStopWhere (nat_le most_watchers (length (watchers_of watchers.old m))) refusal.Limit) }
 {
-    world.is_sound();
+    world.cite_soundness();
     let catalogue = world.member(m).catalogue();
     let number = watchers[m as usize].add(pattern, catalogue)?;
     put_watch(report, label, u64::from(number))?;
@@ -191,7 +192,7 @@ fn tell_news(
     let filter = Filter::new(|pattern: &Pattern, publisher: u32, name: &Name| {
         accepts(pattern, publisher, name)
     });
-    world.is_sound();
+    world.cite_soundness();
     let catalogue = world.member(m).catalogue();
     let pairs = watchers[m as usize].take(alloc, number, &filter, catalogue)?;
     let entries = entries_of(alloc, catalogue, &pairs)?;

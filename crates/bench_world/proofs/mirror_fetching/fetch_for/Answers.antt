@@ -3,7 +3,7 @@ use Rattle.std.specs.Prelude.{sum}
 use Rattle.std.proofs.lemmas.List.{get_or_default}
 use Rattle.std.proofs.lemmas.Result.{on_ok_weaker, on_err_weaker, IfOk-weaker}
 use Rattle.repo_holdings.specs.Taking.{Fetched}
-use Rattle.repo_member.specs.InGroup.{that_came}
+use Rattle.repo_member.specs.InGroup.{parts_fetched}
 use Rattle.repo_mirror.specs.MirrorState.{MirrorState, mirror_holdings}
 use Rattle.repo_mirror.specs.Passing.{mirror_takes}
 use Rattle.repo_mirror.specs.ConsistentMirrors.{IsConsistentMirror}
@@ -60,7 +60,7 @@ returns g c =
           planned ∙ ap (λ (m : MirrorState). length (next_parts None (mirror_holdings m))) old)
           c.fetch_of_all-fetched.ensures.planned;
       parts =
-          IfOk-weaker r _ _ (λ _ parts. parts ∙ ap (λ (xs : List Fetched). length (that_came xs)) came)
+          IfOk-weaker r _ _ (λ _ parts. parts ∙ ap (λ (xs : List Fetched). length (parts_fetched xs)) came)
           c.fetch_of_all-fetched.ensures.parts;
       attempts =
           IfOk-weaker r _ _ (λ _ attempts.

@@ -10,8 +10,8 @@ use Rattle.bench_world.proofs.Learnt.{partly_none}
 use Rattle.bench_world.proofs.Bounded.{condition, passed_on}
 use Rattle.bench_world.proofs.settling.settle_members.Goals as goal
 
-pub returns-in_err-reported-clause-err : goal.returns-in_err-reported-clause-err
-returns-in_err-reported-clause-err g c =
+pub returns-in_err-syncs-clause-err : goal.returns-in_err-syncs-clause-err
+returns-in_err-syncs-clause-err g c =
     let can = condition c.requires in
     where_err c.from_residual.result
     (partly_none c.args.g.now g.begun can.logs.are can.sound c.args.members.now.items can.begun can.consistent)
@@ -42,8 +42,8 @@ learn_all-requires g c =
       own = own_known c.args.g.now g.begun can.logs.are can.sound ms can.begun can.consistent c.in_ok-known.known all;
     }
 
-pub gather_all-requires : goal.gather_all-requires
-gather_all-requires g c κs within =
+pub fetch_all_for_members-requires : goal.fetch_all_for_members-requires
+fetch_all_for_members-requires g c κs within =
     let can = condition c.requires in
     let ms = c.args.members.now.items in
     let all : c.in_ok-known.known ≡ join_all (knowns ms) =
@@ -75,8 +75,8 @@ returns-clause-counts g c =
     let done =
     have_learnt c.args.g.now g.begun can.logs.are can.sound ms can.begun can.consistent c.in_ok-known.known all
     c.learn_all.new.members.items c.learn_all.ensures.len c.learn_all.ensures.each in
-    counts_then ms c.learn_all.new.members.items c.gather_all.new.members.items done.counts
-    c.gather_all.ensures.counts
+    counts_then ms c.learn_all.new.members.items c.fetch_all_for_members.new.members.items done.counts
+    c.fetch_all_for_members.ensures.counts
 
 pub returns-in_err-parts-clause-counts : goal.returns-in_err-parts-clause-counts
 returns-in_err-parts-clause-counts g c =
@@ -87,5 +87,5 @@ returns-in_err-parts-clause-counts g c =
     let done =
     have_learnt c.args.g.now g.begun can.logs.are can.sound ms can.begun can.consistent c.in_ok-known.known all
     c.learn_all.new.members.items c.learn_all.ensures.len c.learn_all.ensures.each in
-    counts_then ms c.learn_all.new.members.items c.gather_all.new.members.items done.counts
-    c.gather_all.ensures.counts
+    counts_then ms c.learn_all.new.members.items c.fetch_all_for_members.new.members.items done.counts
+    c.fetch_all_for_members.ensures.counts

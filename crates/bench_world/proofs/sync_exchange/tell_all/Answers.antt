@@ -3,7 +3,7 @@ use Rattle.std.proofs.lemmas.List.{get_or_default}
 use Rattle.bench_net.specs.SentList.{sent_packet}
 use Rattle.repo_member.specs.MemberState.{MemberState}
 use Rattle.bench_world.specs.Worlds.{nobody}
-use Rattle.bench_world.proofs.OneByOne.{reported_pushed}
+use Rattle.bench_world.proofs.OneByOne.{received_pushed}
 use Rattle.bench_world.proofs.sync_exchange.tell_all.Goals as goal
 
 pub loop-member-preserved : goal.loop-member-preserved
@@ -19,10 +19,10 @@ loop-member-preserved g c =
     let vector = c.in_ok-vector.ensures ∙ c.vector.ensures.known in
     let octets = c.in_ok-octets.ensures in
     record {
-      reported =
-          reported_pushed c.args.g.now c.loop-member.reported.items c.push.new.self.items
+      syncs =
+          received_pushed c.args.g.now c.loop-member.syncs.items c.push.new.self.items
           (record { sender = c.loop-member.sender; vector = c.in_ok-vector.vector; octets = c.in_ok-octets.octets })
           c.args.members.now i item (omega arith) c.member-item.is c.in_ok-push.ensures.items
-          (λ k. sent_packet (number k) (vector k) (octets k)) c.loop-member.invariant.reported;
+          (λ k. sent_packet (number k) (vector k) (octets k)) c.loop-member.invariant.syncs;
       sender = omega (arith, c.loop-member.invariant.sender);
     }

@@ -6,7 +6,7 @@ use Rattle.fetch_work.proofs.turns.work.Goals as goal
 pub returns-then-not-round-clause-rests : goal.returns-then-not-round-clause-rests
 returns-then-not-round-clause-rests g c =
     let s = c.if-not-round.ensures.scans in
-    (s.works.holds, rests_after (g.T.Trial.brings c.args.trial.now) c.args.count c.args.board.now.tries _ _ s)
+    (s.works.holds, rests_after (g.T.Trial.packet_at c.args.trial.now) c.args.count c.args.board.now.tries _ _ s)
 
 pub loop-count-smaller : goal.loop-count-smaller
 loop-count-smaller g c =

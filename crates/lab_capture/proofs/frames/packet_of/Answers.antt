@@ -8,4 +8,4 @@ use Rattle.lab_capture.proofs.frames.packet_of.Goals as goal
 pub returns : goal.returns
 returns c =
     c.packet.ensures ∙ ap (λ (a : MemberState). value_of part_cmp a.store c.args.part) c.member.ensures.same
-    ∙ held_packet c.args.world.now c.is_sound.ensures.consistent c.args.m c.requires c.args.part
+    ∙ held_packet c.args.world.now c.cite_soundness.ensures.consistent c.args.m c.requires c.args.part

@@ -6,7 +6,7 @@ pub overflow_cast-result : goal.overflow_cast-result
 overflow_cast-result c =
     omega (
       arith,
-      few_senders c.args.world.now c.is_sound.ensures.consistent c.args.k c.in-Some.m
+      few_senders c.args.world.now c.cite_soundness.ensures.consistent c.args.k c.in-Some.m
           (sym c.in-Some.ensures),
     )
 
@@ -14,6 +14,6 @@ pub returns-in-Some-clause-station : goal.returns-in-Some-clause-station
 returns-in-Some-clause-station c =
     omega (
       arith,
-      few_senders c.args.world.now c.is_sound.ensures.consistent c.args.k c.in-Some.m
+      few_senders c.args.world.now c.cite_soundness.ensures.consistent c.args.k c.in-Some.m
           (sym c.in-Some.ensures),
     )

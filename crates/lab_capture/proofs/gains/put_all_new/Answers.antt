@@ -29,9 +29,9 @@ loop-part-smaller c =
     let held = (member (world_of s) c.args.m).held in
     let stored : keys c.member.result.now.store ≡ held =
     ap (λ (x : MemberState). keys x.store) c.member.ensures.same
-    ∙ sym (held_is s c.is_sound.ensures.consistent c.args.m c.requires) in
+    ∙ sym (held_is s c.cite_soundness.ensures.consistent c.args.m c.requires) in
     fewer_left (λ t. holds (member_plan a) t) held
-    (held_in_order s c.is_sound.ensures.consistent c.args.m c.requires) c.loop-part.last c.in-Some.part
+    (held_in_order s c.cite_soundness.ensures.consistent c.args.m c.requires) c.loop-part.last c.in-Some.part
     (c.in-Some.ensures ∙ ap (λ (ts : List Part). first (filter (is_after c.loop-part.last) ts)) stored)
 
 pub loop-part-preserved : goal.loop-part-preserved
@@ -41,9 +41,9 @@ loop-part-preserved c =
     let held = (member (world_of s) c.args.m).held in
     let stored : keys c.member.result.now.store ≡ held =
     ap (λ (x : MemberState). keys x.store) c.member.ensures.same
-    ∙ sym (held_is s c.is_sound.ensures.consistent c.args.m c.requires) in
+    ∙ sym (held_is s c.cite_soundness.ensures.consistent c.args.m c.requires) in
     let has : Part → Bool = λ t. holds (member_plan a) t in
-    let are = held_in_order s c.is_sound.ensures.consistent c.args.m c.requires in
+    let are = held_in_order s c.cite_soundness.ensures.consistent c.args.m c.requires in
     let e = c.in-Some.ensures ∙ ap (λ (ts : List Part). first (filter (is_after c.loop-part.last) ts)) stored in
     let f = new_part s.keys (world_of s) c.args.m c.args.held.now in
     record {

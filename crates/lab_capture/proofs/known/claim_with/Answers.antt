@@ -17,6 +17,7 @@ returns-in_ok-to_vec-in-Ok c =
     let octets = c.in_ok-to_vec-in-Ok.ensures.items_if_clones_equal (λ x y e. e) ∙ c.interest.ensures in
     ap (λ (t : Part). with_them t c.in_ok-to_vec-in-Ok.field-0.items) c.part.ensures
     ∙ ap (with_them c.in-Ok.want.part) octets
-    ∙ claim_is_sent c.args.world.now c.is_sound.ensures.consistent c.args.asker c.requires.there c.args.asked c.args.f
+    ∙ claim_is_sent c.args.world.now c.cite_soundness.ensures.consistent c.args.asker c.requires.there c.args.asked
+    c.args.f
     c.in-Ok.want (subst (λ (a : MemberState). at a c.args.world.now.keys) c.member.ensures.same
     (subst (at c.member.result.now) c.group.ensures c.in-Ok.ensures.want))

@@ -13,7 +13,7 @@ use Rattle.lab_capture.proofs.known.planned.Goals as goal
 pub plan-requires : goal.plan-requires
 plan-requires c =
     ap (λ (g : GroupKeys). length g.members.names) c.group.ensures
-    ∙ is_of_group c.args.world.now c.is_sound.ensures.consistent c.args.m c.requires
+    ∙ is_of_group c.args.world.now c.cite_soundness.ensures.consistent c.args.m c.requires
     ∙ sym (ap (λ (a : MemberState). length a.known) c.member.ensures.same)
 
 pub returns : goal.returns
@@ -23,5 +23,5 @@ returns c =
     IfOk-weaker c.plan.result _ _ (λ jobs are.
     ap (map asked_by) are ∙ ap (λ (g : GroupKeys). asked g c.member.result.now) c.group.ensures
     ∙ ap (asked c.args.world.now.keys) c.member.ensures.same
-    ∙ jobs_ask c.args.world.now c.is_sound.ensures.consistent c.args.m c.requires)
+    ∙ jobs_ask c.args.world.now c.cite_soundness.ensures.consistent c.args.m c.requires)
     c.plan.ensures

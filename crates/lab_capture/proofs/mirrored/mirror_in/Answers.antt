@@ -10,4 +10,4 @@ pub returns : goal.returns
 returns c =
     let with_held : List Part → Holder = λ ts. record { member = c.args.mirror; held = ts } in
     ap with_held (c.in_ok-held.ensures ∙ ap (λ (m : MirrorState). keys m.store) c.mirror.ensures
-    ∙ held_stored c.args.world.now c.is_sound.ensures.consistent c.args.mirror c.requires)
+    ∙ held_stored c.args.world.now c.cite_soundness.ensures.consistent c.args.mirror c.requires)

@@ -8,4 +8,4 @@ use Rattle.lab_capture.proofs.mirrored.mirror_packet.Goals as goal
 pub returns : goal.returns
 returns c =
     c.packet.ensures ∙ ap (λ (m : MirrorState). value_of part_cmp m.store c.args.part) c.mirror.ensures
-    ∙ packet_is c.args.world.now c.is_sound.ensures.consistent c.args.i c.requires c.args.part
+    ∙ packet_is c.args.world.now c.cite_soundness.ensures.consistent c.args.i c.requires c.args.part

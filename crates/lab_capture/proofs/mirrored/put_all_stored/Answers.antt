@@ -32,9 +32,9 @@ loop-part-smaller c =
     let held = stored_by (world_of s) (mirror_of (map mirror_as s.mirrors) c.args.i) in
     let stored : keys c.mirror.result.now.store ≡ held =
     ap (λ (x : MirrorState). keys x.store) c.mirror.ensures
-    ∙ (held_stored s c.is_sound.ensures.consistent c.args.i c.requires) in
+    ∙ (held_stored s c.cite_soundness.ensures.consistent c.args.i c.requires) in
     fewer_left (λ t. holds (fetch_plan a) t) held
-    (stored_are_held s c.is_sound.ensures.consistent c.args.i c.requires) c.loop-part.last c.in-Some.part
+    (stored_are_held s c.cite_soundness.ensures.consistent c.args.i c.requires) c.loop-part.last c.in-Some.part
     (c.in-Some.ensures ∙ ap (λ (ts : List Part). first (filter (is_after c.loop-part.last) ts)) stored)
 
 pub loop-part-preserved : goal.loop-part-preserved
@@ -44,9 +44,9 @@ loop-part-preserved c =
     let held = stored_by (world_of s) (mirror_of (map mirror_as s.mirrors) c.args.i) in
     let stored : keys c.mirror.result.now.store ≡ held =
     ap (λ (x : MirrorState). keys x.store) c.mirror.ensures
-    ∙ (held_stored s c.is_sound.ensures.consistent c.args.i c.requires) in
+    ∙ (held_stored s c.cite_soundness.ensures.consistent c.args.i c.requires) in
     let has : Part → Bool = λ t. holds (fetch_plan a) t in
-    let are = stored_are_held s c.is_sound.ensures.consistent c.args.i c.requires in
+    let are = stored_are_held s c.cite_soundness.ensures.consistent c.args.i c.requires in
     let e = c.in-Some.ensures ∙ ap (λ (ts : List Part). first (filter (is_after c.loop-part.last) ts)) stored in
     let f = mirror_part s.keys (world_of s) (mirror_of (map mirror_as s.mirrors) c.args.i) c.args.i c.args.held.now in
     record {
@@ -65,12 +65,12 @@ returns c =
     let held = stored_by (world_of s) (mirror_of (map mirror_as s.mirrors) c.args.i) in
     let stored : keys c.mirror.result.now.store ≡ held =
     ap (λ (x : MirrorState). keys x.store) c.mirror.ensures
-    ∙ held_stored s c.is_sound.ensures.consistent c.args.i c.requires in
+    ∙ held_stored s c.cite_soundness.ensures.consistent c.args.i c.requires in
     let f = mirror_part s.keys (world_of s) (mirror_of (map mirror_as s.mirrors) c.args.i) c.args.i
     c.args.held.now in
     passed_all f (filter (is_after c.loop-part.last) held) c.loop-part.out.items
     (c.args.out.now.items ++ frames_text (flat_map f held))
     (none_left (λ t. holds (fetch_plan m) t) held
-    (stored_are_held s c.is_sound.ensures.consistent c.args.i c.requires) c.loop-part.last
+    (stored_are_held s c.cite_soundness.ensures.consistent c.args.i c.requires) c.loop-part.last
     (c.in_default.ensures ∙ ap (λ (ts : List Part). first (filter (is_after c.loop-part.last) ts)) stored))
     c.loop-part.invariant.all

@@ -1,12 +1,12 @@
 use Rattle.std.proofs.Common.{◌∙◌, sym, refl}
 use Rattle.script_report.specs.declared.refusal.Refusal.TheVariants.{Limit}
-use Rattle.script_story.specs.Judging.{env_by, refused}
-use Rattle.script_story.specs.Story.{judged_next}
+use Rattle.script_story.specs.Evaluation.{env_by, refused}
+use Rattle.script_story.specs.ScriptRun.{evaluated_next}
 use Rattle.script_lines.specs.declared.error.LineError.TheVariants as error
 use Rattle.script_lines.specs.Scripts.{reached}
 use Rattle.lab_lines.specs.Carrying.{passed}
 use Rattle.lab_lines.specs.Folding.{after_note, looked}
-use Rattle.lab_lines.proofs.Folds.{fails_stated, judged_line, line_beyond, noted_line, over_stopped, passes_note}
+use Rattle.lab_lines.proofs.Folds.{fails_stated, evaluated_line, line_beyond, noted_line, over_stopped, passes_note}
 use Rattle.lab_lines.proofs.Folds.{passes_stated, same_passed}
 use Rattle.lab_lines.proofs.carrying.pass_line.Goals as goal
 
@@ -63,8 +63,8 @@ returns-in-Err-take-clause-over g c =
     let p = passed c.args.totals.now (reached c.args.script) in
     let fit = sym c.fits-fits.ensures ∙ c.if-not-fits.false in
     over_stopped f env p c.args.form.now c.args.line.now c.in-Err-take.error
-    (judged_next env p.reached c.args.line.now)
-    (judged_line f env p c.args.form.now c.args.line.now fit (sym c.is_note.ensures ∙ c.if-is_note.false))
+    (evaluated_next env p.reached c.args.line.now)
+    (evaluated_line f env p c.args.form.now c.args.line.now fit (sym c.is_note.ensures ∙ c.if-is_note.false))
     c.in-Err-take.ensures.stopped c.count.new.self c.count.ensures.lines c.count.ensures.octets
     c.stop_at.new.form (g.K.Sink.out c.args.sink.now) (g.K.Sink.out c.stop_at.new.sink)
     c.next_line-number.result c.next_line-number.ensures c.stop_at.result

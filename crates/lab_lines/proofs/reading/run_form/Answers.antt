@@ -1,5 +1,5 @@
 use Rattle.std.specs.Option.{option_map}
-use Rattle.script_story.specs.Judging.{env_by}
+use Rattle.script_story.specs.Evaluation.{env_by}
 use Rattle.lab_text.specs.declared.status.LabStatus.TheVariants.{NoMemory}
 use Rattle.lab_lines.specs.Carrying.{RunEnds}
 use Rattle.lab_lines.specs.Folding.{form_outcome}
@@ -19,8 +19,8 @@ returns-in_default-clause-causes g c =
     let of = form_outcome g.F.Form.form (env_by (g.D.Draws.draw c.args.draws.now) (g.N.Net.passes c.args.net.now))
     c.args.form.now in
     let out = g.K.Sink.out c.args.sink.now in
-    let story = option_map of (g.S.Source.left c.args.source.now) in
-    has_cause story out out NoMemory (λ e. absurd cc) (λ e. absurd cc) (λ e. cc) (unwritten story out)
+    let script_run = option_map of (g.S.Source.left c.args.source.now) in
+    has_cause script_run out out NoMemory (λ e. absurd cc) (λ e. absurd cc) (λ e. cc) (unwritten script_run out)
 
 pub returns-in_default-clause-lines : goal.returns-in_default-clause-lines
 returns-in_default-clause-lines g c =

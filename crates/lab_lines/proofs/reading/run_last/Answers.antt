@@ -1,7 +1,7 @@
 use Rattle.std.proofs.Common.{◌≢◌, [], length, ap, sym, ◌∙◌}
 use Rattle.std.proofs.lemmas.Bool.{eqb-true, eqb-false}
 use Rattle.std.proofs.lemmas.List.{nil_from_length}
-use Rattle.script_story.specs.Judging.{env_by}
+use Rattle.script_story.specs.Evaluation.{env_by}
 use Rattle.script_lines.specs.Scripts.{reached}
 use Rattle.lab_lines.specs.Carrying.{passed}
 use Rattle.lab_lines.proofs.LastLines.{last_failed, last_halted, last_none, last_passed}

@@ -1,6 +1,6 @@
 use Rattle.std.proofs.Common.{sym, subst, List, ℕ, arith}
 use Rattle.repo_io.specs.Lines.{lines}
-use Rattle.script_story.specs.Judging.{env_by}
+use Rattle.script_story.specs.Evaluation.{env_by}
 use Rattle.script_lines.specs.Scripts.{reached}
 use Rattle.lab_lines.specs.Carrying.{Carried, Ends, Fails, Halts, Passes, passed}
 use Rattle.lab_lines.specs.Folding.{outcome_of, ran_from}

@@ -1,5 +1,5 @@
 use Rattle.std.proofs.Common.{◌≤◌, ◌-◌}
-use Rattle.script_story.specs.Judging.{env_by}
+use Rattle.script_story.specs.Evaluation.{env_by}
 use Rattle.script_lines.specs.Scripts.{IsScript, reached}
 use Rattle.lab_lines.specs.Carrying.{Carried, passed}
 use Rattle.lab_lines.specs.Folding.{most_lines, most_octets}

@@ -4,11 +4,11 @@ use Rattle.lab_text.proofs.difference.after_common_line.Goals as goal
 
 pub returns-in_err-line-clause-lines : goal.returns-in_err-line-clause-lines
 returns-in_err-line-clause-lines c =
-    let none = none_left c.args.expected.now c.args.came.now c.in_err-line.ensures.lines in search rules
+    let none = none_left c.args.expected.now c.args.actual.now c.in_err-line.ensures.lines in search rules
 
 pub returns-in_err-other-clause-lines : goal.returns-in_err-other-clause-lines
 returns-in_err-other-clause-lines c =
-    let none = none_right c.args.expected.now c.args.came.now c.in_err-other.ensures.lines in search rules
+    let none = none_right c.args.expected.now c.args.actual.now c.in_err-other.ensures.lines in search rules
 
 pub returns-then-ne-clause-lines : goal.returns-then-ne-clause-lines
 returns-then-ne-clause-lines c =

@@ -8,7 +8,7 @@ pub returns-then-is_empty : goal.returns-then-is_empty
 returns-then-is_empty c =
     let first : is_empty_list (line_texts c.args.expected.now) ≡ true =
     emptiness c.args.expected.now ∙ sym c.is_empty.ensures ∙ c.if-is_empty.true in
-    rw first (c.is_empty-then-is_empty.ensures ∙ sym (emptiness c.args.came.now))
+    rw first (c.is_empty-then-is_empty.ensures ∙ sym (emptiness c.args.actual.now))
 
 pub returns-else-is_empty : goal.returns-else-is_empty
 returns-else-is_empty c =

@@ -4,12 +4,12 @@ use Rattle.lab_text.proofs.difference.before_common_line.Goals as goal
 
 pub returns-in_err-expected_others-clause-lines : goal.returns-in_err-expected_others-clause-lines
 returns-in_err-expected_others-clause-lines c =
-    let none = none_before_left c.args.expected.now c.args.came.now c.in_err-expected_others.ensures.lines in
+    let none = none_before_left c.args.expected.now c.args.actual.now c.in_err-expected_others.ensures.lines in
     search rules
 
 pub returns-in_err-came_others-clause-lines : goal.returns-in_err-came_others-clause-lines
 returns-in_err-came_others-clause-lines c =
-    let none = none_before_right c.args.expected.now c.args.came.now c.in_err-came_others.ensures.lines in
+    let none = none_before_right c.args.expected.now c.args.actual.now c.in_err-came_others.ensures.lines in
     search rules
 
 pub returns-then-ne-clause-lines : goal.returns-then-ne-clause-lines

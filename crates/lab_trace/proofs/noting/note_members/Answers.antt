@@ -15,7 +15,7 @@ loop-m-preserved c =
     let s = c.args.world.now in
     let labels = member_labels c.args.words.now in
     let within = c.loop-m-test.true in
-    let names = c.is_sound.ensures.names in
+    let names = c.cite_soundness.ensures.names in
     let count = length-map s.members in_group in
     let roster = c.len-m-end.ensures.len in
     let named = ap (λ (names : List (List Component)). length names) c.roster.ensures.names in
@@ -31,7 +31,7 @@ pub returns-clause-text : goal.returns-clause-text
 returns-clause-text c =
     let s = c.args.world.now in
     let labels = member_labels c.args.words.now in
-    let names = c.is_sound.ensures.names in
+    let names = c.cite_soundness.ensures.names in
     let count = length-map s.members in_group in
     let over = c.loop-m-test.false in
     let roster = c.len-m-end.ensures.len in

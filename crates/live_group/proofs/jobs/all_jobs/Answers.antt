@@ -39,7 +39,7 @@ loop-receiver-preserved g c =
     let P : List OpenedView → Type 0 = λ os.
     (inboxes_of_lines publisher.senders.items ≡ inboxes_of os) × (inboxes_of now ≡ inboxes_of os)
     × ((k : ℕ) → HavePorts (k + 1) os → HavePorts k now) in
-    let reported : P opened =
+    let told : P opened =
     subst P c.as_mut_slice.ensures.value
     (c.in_ok-senders.ensures.senders, c.in_ok-senders.ensures.inboxes, c.in_ok-senders.ensures.ports) in
     subst (λ (os : List OpenedView).
@@ -48,5 +48,5 @@ loop-receiver-preserved g c =
     (subst (λ (js : List (Job g.row.L.Denot)). AreWired c.args.members (n + 1) inboxes now js later) (sym jobs)
     (one_wired {L = g.row.L.Denot} c.args.members n inboxes opened now c.loop-receiver.jobs.items
     c.loop-receiver.receiver-iterator.rest.items later publisher c.loop-receiver.invariant c.in-Some.ensures.steps.0
-    refl reported.0 reported.1
-    reported.2))
+    refl told.0 told.1
+    told.2))

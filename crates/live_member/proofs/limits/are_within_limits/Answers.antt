@@ -16,7 +16,7 @@ returns c =
     length-map xs (λ l. l.items) ∙ c.if-lists-len.false ∙ c.len.ensures.len ∙ ap length c.roster.ensures.names in
     let few : sum_by length lists ≤ 200 = c.are_few.ensures.0 c.if-not-are_few.false in
     λ draws. (
-      λ yes. within g lists draws c.is_sound.ensures width
+      λ yes. within g lists draws c.cite_soundness.ensures width
           (All-map (λ (os : List NamedContents). All IsObject os) (λ l. l.items) xs c.count_parts.ensures.objects)
           few
           (let most = leb-true c.count_parts.result 4000 yes in omega (arith, most, c.count_parts.ensures.parts)),

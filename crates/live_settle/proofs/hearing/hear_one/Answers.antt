@@ -14,11 +14,11 @@ returns-then-p-j g c = record {
 pub returns : goal.returns
 returns g c = record {
   hears = heard_at g.L.Lists.meaning c.args.lives.now c.args.j c.args.p c.index-lives-j.result c.index-lives-p.result
-      c.hear.new.self c.in_ok-reported.reported c.in_ok-hear.field-0 c.requires.ready c.requires.there c.requires.other
-      c.requires.room c.requires.knows c.in_ok-reported.ensures c.in_ok-hear.ensures;
+      c.hear.new.self c.in_ok-told.told c.in_ok-hear.field-0 c.requires.ready c.requires.there c.requires.other
+      c.requires.room c.requires.knows c.in_ok-told.ensures c.in_ok-hear.ensures;
   heard = λ differs. hears_report g.L.Lists.meaning c.args.lives.now c.args.j c.args.p c.index-lives-j.result
-      c.index-lives-p.result c.hear.new.self c.in_ok-reported.reported c.in_ok-hear.field-0 c.requires.there
+      c.index-lives-p.result c.hear.new.self c.in_ok-told.told c.in_ok-hear.field-0 c.requires.there
       c.requires.other
-      c.requires.room c.in_ok-reported.ensures c.in_ok-hear.ensures;
+      c.requires.room c.in_ok-told.ensures c.in_ok-hear.ensures;
   itself = λ same. absurd (c.if-p-j.false same);
 }

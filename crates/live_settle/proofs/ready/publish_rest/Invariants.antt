@@ -6,4 +6,4 @@ abbrev pub invariant-loop : goal.invariant-loop
 invariant-loop g l = IsPublishingRest g.L.Lists.meaning l.fn.live l.live
 
 abbrev pub decreases-loop : goal.decreases-loop
-decreases-loop g l = length l.live.coming
+decreases-loop g l = length l.live.unpublished

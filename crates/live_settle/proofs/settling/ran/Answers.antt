@@ -3,7 +3,7 @@ use Rattle.repo_member.specs.MemberState.{MemberState}
 use Rattle.repo_member.specs.ConsistentMembers.{IsConsistentMember}
 use Rattle.repo_holdings.specs.Listed.{member_catalogue}
 use Rattle.live_member.specs.Meanings.{whole_logs}
-use Rattle.live_member.specs.Lives.{BringParts}
+use Rattle.live_member.specs.Lives.{AreOfPublishedParts}
 use Rattle.live_settle.proofs.States.{whole_consistently}
 use Rattle.live_settle.proofs.settling.ran.Goals as goal
 
@@ -14,8 +14,8 @@ returns-clause-ran g c =
     let ready = c.requires.ready in
     record {
       replays = rw (parts.journal, parts.member) ready.live.replays;
-      brought = subst (BringParts t) (sym parts.journal) ready.live.brought;
+      brought = subst (AreOfPublishedParts t) (sym parts.journal) ready.live.brought;
       consistent = subst (IsConsistentMember t.group (whole_logs t)) (sym parts.member)
-          (whole_consistently t 1000000 c.args.live ready.live ready.coming);
+          (whole_consistently t 1000000 c.args.live ready.live ready.unpublished);
       catalogue = ap (λ (a : MemberState). member_catalogue a.store) parts.member ∙ c.requires.catalogue;
     }

@@ -19,8 +19,8 @@ returns-in_err-value-clause-read c =
     (digest-pair_fails c.args.at (take i c.loop-octet.octet-items) inv.prefix c.loop-octet.rest.now c.args.text.now
     c.in_err-value.field-0.0 inv.read short inv.split c.in_err-value.ensures)
 
-pub returns-in_err-value-clause-reported : goal.returns-in_err-value-clause-reported
-returns-in_err-value-clause-reported c =
+pub returns-in_err-value-clause-not_memory : goal.returns-in_err-value-clause-not_memory
+returns-in_err-value-clause-not_memory c =
     let p = err_from_is_err_and c.from_residual.result c.from_residual.ensures.1 in
     let f = pair-fails _ c.loop-octet.rest.now c.in_err-value.field-0.0 c.in_err-value.ensures in
     rw (p.1, p.2, ← f.1) (λ e. cc)

@@ -10,4 +10,4 @@ returns-in-Ok-clause-small c = digest-short c.in-Ok.digest c.args.text.now c.in-
 
 pub returns-in-Err-clause-exact : goal.returns-in-Err-clause-exact
 returns-in-Err-clause-exact c =
-    sym (digest-fails c.args.text.now c.in-Err.field-0 c.in-Err.ensures.reported c.in-Err.ensures.read)
+    sym (digest-fails c.args.text.now c.in-Err.field-0 c.in-Err.ensures.not_memory c.in-Err.ensures.read)

@@ -11,4 +11,4 @@ returns-in-Ok-clause-small c =
 
 pub returns-in-Err-clause-exact : goal.returns-in-Err-clause-exact
 returns-in-Err-clause-exact c =
-    sym (number-fails c.args.text.now c.in-Err.field-0 c.in-Err.ensures.reported c.in-Err.ensures.read)
+    sym (number-fails c.args.text.now c.in-Err.field-0 c.in-Err.ensures.not_memory c.in-Err.ensures.read)

@@ -9,7 +9,7 @@ use Rattle.repo_holdings.specs.Noted.{NotesState}
 use Rattle.repo_holdings.specs.Gaining.{summary_of}
 use Rattle.repo_holdings.specs.Changing.{withdraws_too}
 use Rattle.repo_holdings.specs.declared.record_summary.RecordSummary.{RecordSummary}
-use Rattle.repo_holdings.proofs.NotedLemmas.{named_reported, noted_withdrawn, noted_since, name_noted, others_named}
+use Rattle.repo_holdings.proofs.NotedLemmas.{named_stated, noted_withdrawn, noted_since, name_noted, others_named}
 use Rattle.repo_holdings.proofs.WholeLemmas.{some_of}
 use Rattle.repo_holdings.proofs.changes.change_by_summary.Goals.{in-Some-Object, in-None}
 use Rattle.repo_holdings.proofs.changes.change_by_summary.Goals as goal
@@ -46,7 +46,7 @@ entry_if_whole-requires-clause-named c = elim c.match-summary.branch [
       ∙ name_noted pair w.in-Some-Object.name c.args.notes.now.names w.note_name.new.self.names
       w.note_name.ensures.names in
       some_of (listing_at packets pair)
-      (named_reported packets pair w.in-Some-Object.field-0 _ w.in-Some-Object.name
+      (named_stated packets pair w.in-Some-Object.field-0 _ w.in-Some-Object.name
       (subst (λ (o : Option RecordSummary). IfSome o (λ x. option_map summary_of (stated_at packets pair) ≡ Some x))
       w.in-Some-Object.is c.requires.summary) w.in-Some-Object.field-0-is)
       (λ l listed same.

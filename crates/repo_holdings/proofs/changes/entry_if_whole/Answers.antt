@@ -45,8 +45,8 @@ returns-then-is_withdrawn-clause-noted c =
 kept_entry : (w : Bool) (o : Option Entry) (e : Entry) → w ≡ false → o ≡ Some e → cond w None o ≡ Some e
 kept_entry w o e kept there = ap (λ (b : Bool). cond b None o) kept ∙ there
 
-pub reported_or_taken-octets-requires-clause-whole : goal.reported_or_taken-octets-requires-clause-whole
-reported_or_taken-octets-requires-clause-whole c =
+pub given_or_made-octets-requires-clause-whole : goal.given_or_made-octets-requires-clause-whole
+given_or_made-octets-requires-clause-whole c =
     let packets = c.args.store.now.packets in
     let pair : Pair = c.args.publication in
     let joined : List ℕ = contents_joined packets pair c.unwrap-shape.result in
@@ -75,9 +75,9 @@ returns-clause-entry c =
     rw (name, c.from.ensures)
     (sym (kept_entry (is_withdrawn packets pair) (whole_at packets pair) _ not_withdrawn
     (listed_whole c.args.plan.now packets pair c.requires.tied l c.unwrap-shape.result
-    c.reported_or_taken-octets.result.0 c.reported_or_taken-octets.result.1 listed
+    c.given_or_made-octets.result.0 c.given_or_made-octets.result.1 listed
     (sym c.complete.ensures ∙ c.if-not-complete.false) (sym c.shape.ensures.shape ∙ c.unwrap-shape.ensures)
-    c.reported_or_taken-octets.ensures.octets c.reported_or_taken-octets.ensures.digest))))
+    c.given_or_made-octets.ensures.octets c.given_or_made-octets.ensures.digest))))
 
 pub returns-clause-noted : goal.returns-clause-noted
 returns-clause-noted c =

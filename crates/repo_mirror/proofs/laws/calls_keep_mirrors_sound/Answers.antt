@@ -1,4 +1,4 @@
-use Rattle.repo_mirror.specs.KeptPackets.{AreKeptPackets}
+use Rattle.repo_mirror.specs.PacketsFor.{ArePacketsFor}
 use Rattle.repo_mirror.specs.WantedAlone.{WantsThose}
 use Rattle.repo_mirror.specs.MirrorCalls.{ListsAccepted, PassedIsGone}
 use Rattle.repo_mirror.proofs.AcceptedLemmas.{lists_accepted}
@@ -13,7 +13,7 @@ pub returns-clause-lists : goal.returns-clause-lists
 returns-clause-lists c = in_every_mirror ListsAccepted (λ m r. lists_accepted m.pattern m.store r.packets)
 
 pub returns-clause-packets : goal.returns-clause-packets
-returns-clause-packets c = in_every_mirror (λ m. AreKeptPackets m.pattern m.store) (λ m r. r.packets)
+returns-clause-packets c = in_every_mirror (λ m. ArePacketsFor m.pattern m.store) (λ m r. r.packets)
 
 pub returns-clause-gone : goal.returns-clause-gone
 returns-clause-gone c = in_every_mirror PassedIsGone passed_is_gone

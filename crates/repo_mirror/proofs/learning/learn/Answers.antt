@@ -25,7 +25,7 @@ raise-requires c = let wide = c.loop-member.invariant.width in omega (arith, wid
 pub loop-member-preserved : goal.loop-member-preserved
 loop-member-preserved c =
     let i : ℕ = c.loop-member.member in
-    let so_far = join c.args.vector.now (take i c.args.reported.now) in
+    let so_far = join c.args.vector.now (take i c.args.received.now) in
     let known : ℕ → HoldingsState = λ n.
     knows_too i n (record c.args.held.now { known = asked_numbers c.args.asked 0 so_far }) in
     record {
@@ -35,7 +35,7 @@ loop-member-preserved c =
           ∙ ap known (c.asked_number-number.ensures
           ∙ ap (λ (n : ℕ). cond (is_publisher c.args.asked i) n 0) c.get.ensures)
           ∙ ap (λ (k : List ℕ). record c.args.held.now { known = k })
-          (asked_next c.args.asked c.args.vector.now c.args.reported.now i (omega arith) c.requires.width);
+          (asked_next c.args.asked c.args.vector.now c.args.received.now i (omega arith) c.requires.width);
       width =
           ap (λ (h : HoldingsState). length h.known) c.raise.ensures
           ∙ length-set c.loop-member.held.known i _

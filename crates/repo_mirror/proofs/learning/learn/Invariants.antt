@@ -5,6 +5,6 @@ use Rattle.repo_mirror.proofs.learning.learn.Given as goal
 
 abbrev pub invariant-loop-member : goal.invariant-loop-member
 invariant-loop-member l = record {
-  held : l.held ≡ record l.initial.held { known = asked_numbers l.asked 0 (join l.vector (take l.member l.reported)) };
-  width : length l.held.known ≡ length l.reported;
+  held : l.held ≡ record l.initial.held { known = asked_numbers l.asked 0 (join l.vector (take l.member l.received)) };
+  width : length l.held.known ≡ length l.received;
 }

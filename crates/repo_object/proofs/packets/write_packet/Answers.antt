@@ -19,7 +19,8 @@ pub returns-clause-data : goal.returns-clause-data
 returns-clause-data c =
     let is_data : List ℕ → Type 0 = λ octets. IsOk (data_of octets) in
     let again =
-    data_again c.args.name.now c.args.key_name.now c.args.last c.args.content.now c.args.key.now c.is_sound.ensures.name
-    c.is_sound-2.ensures.name c.requires in
+    data_again c.args.name.now c.args.key_name.now c.args.last c.args.content.now c.args.key.now
+    c.cite_soundness.ensures.name
+    c.cite_soundness-2.ensures.name c.requires in
     IfOk-weaker c.map_err.result _ (λ packet. is_data packet.items)
     (λ packet same. subst is_data (sym same) (subst IsOk (sym again) refl)) (returns-clause-written c)

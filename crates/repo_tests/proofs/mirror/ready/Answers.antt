@@ -9,6 +9,6 @@ pub returns-clause-names : goal.returns-clause-names
 returns-clause-names g c = record {
   publishers =
       All-weaker IsPlainNodeName (λ n. length (encoding n) ≤ node_name_limit) (λ n plain. plain.short)
-      c.args.g.now.members.names c.is_sound.ensures.members.node_names;
-  group = c.is_sound.ensures.name.short;
+      c.args.g.now.members.names c.cite_soundness.ensures.members.node_names;
+  group = c.cite_soundness.ensures.name.short;
 }

@@ -1,6 +1,6 @@
 use Rattle.std.proofs.Common.{◌+◌, ◌<◌, subst, take, length, List, ℕ}
 use Rattle.repo_io.specs.Outside.{GainsText}
-use Rattle.script_story.specs.Judging.{env_by}
+use Rattle.script_story.specs.Evaluation.{env_by}
 use Rattle.script_lines.specs.Scripts.{reached}
 use Rattle.repo_top.specs.Carrying.{Halts}
 use Rattle.repo_top.proofs.Stops.{stops_halted, stops_unwritten}

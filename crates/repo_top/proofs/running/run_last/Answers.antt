@@ -1,7 +1,7 @@
 use Rattle.std.proofs.Common.{◌≢◌, [], length, ap, sym, ◌∙◌}
 use Rattle.std.proofs.lemmas.Bool.{eqb-true, eqb-false}
 use Rattle.std.proofs.lemmas.List.{nil_from_length}
-use Rattle.script_story.specs.Judging.{env_by}
+use Rattle.script_story.specs.Evaluation.{env_by}
 use Rattle.script_lines.specs.Scripts.{reached}
 use Rattle.repo_top.proofs.Runs.{finishes_line, finishes_none, finishes_stopped}
 use Rattle.repo_top.proofs.running.run_last.Goals as goal

@@ -1,5 +1,5 @@
 use Rattle.std.proofs.Common.{◌∙◌, sym, subst, List, ℕ, arith}
-use Rattle.script_story.specs.Judging.{env_by}
+use Rattle.script_story.specs.Evaluation.{env_by}
 use Rattle.script_lines.specs.Scripts.{reached}
 use Rattle.repo_top.specs.Carrying.{Carried, Finishes, Known, Stops, Took}
 use Rattle.repo_io.specs.Lines.{lines}

@@ -2,7 +2,7 @@ use Rattle.std.proofs.Common.{◌≡◌, ◌∙◌, sym, ap, map, string_bytes, 
 use Rattle.repo_top.specs.declared.asked.Asked.{Asked}
 use Rattle.repo_top.specs.declared.asked.Asked.TheVariants.{Inspect}
 use Rattle.repo_top.specs.Forms.{asked_of}
-use Rattle.script_story.specs.Judging.{env_by}
+use Rattle.script_story.specs.Evaluation.{env_by}
 use Rattle.repo_top.proofs.Ends.{inspected_left}
 use Rattle.repo_top.proofs.top.run.Goals as goal
 

@@ -10,8 +10,8 @@ take_outcome-requires g c = record {
       c.args.attempts.now c.requires.outcome;
 }
 
-pub octets_that_came-requires : goal.octets_that_came-requires
-octets_that_came-requires g c =
+pub fetched_octets-requires : goal.fetched_octets-requires
+fetched_octets-requires g c =
     let many =
     many_parts c.args._g.now (mirror_holdings c.args.self.now.mirror) c.args.jobs.now c.args.parts.now
     c.args.attempts.now c.requires.outcome.each in

@@ -6,11 +6,11 @@ use Rattle.repo_member.specs.MemberState.{MemberState, member_plan}
 use Rattle.group_model.specs.Events.{Event}
 use Rattle.group_model.specs.World.{World, Tally}
 use Rattle.group_model.specs.Refusals.{refusal}
-use Rattle.group_model.specs.Steps.{after_event, claim_at, came_from, passes_checks}
-use Rattle.bench_world.specs.Serving.{keyed}
-use Rattle.bench_world.specs.EventValues.{answer_reported}
+use Rattle.group_model.specs.Steps.{after_event, claim_at, response_from, passes_checks}
+use Rattle.bench_world.specs.Serving.{lossless}
+use Rattle.bench_world.specs.EventValues.{answer_report}
 use Rattle.bench_world.specs.Steps.{IsFaultOf}
-use Rattle.bench_world.specs.Answering.{claim_in, came_in}
+use Rattle.bench_world.specs.Answering.{claim_in, holder_response}
 use Rattle.bench_world.specs.Worlds.{GroupState, IsConsistentState, nobody, world_of, logs_around}
 use Rattle.bench_world.specs.Kept.{world_state}
 use Rattle.bench_world.proofs.AnswersAndFeeds.{answer_refusal, answer_taken, answer_passes, answer_world, answer_state}
@@ -26,20 +26,20 @@ returns-in_err-kept c =
     rw (p.1, p.2) record {
       taken = tt;
       world = tt;
-      reported = tt;
+      report = tt;
       joined = tt;
       steps = tt;
       keys = search rules;
       mirrors = search rules;
       refused =
           subst (λ (x : GroupState).
-          IsFaultOf (refusal (keyed x.keys) (world_of x) (Event.Answer c.args.m c.args.f c.args.q))
+          IsFaultOf (refusal (lossless x.keys) (world_of x) (Event.Answer c.args.m c.args.f c.args.q))
           c.in_err-kept.field-0.0)
           c.self.view_is
           (subst (λ r. IsFaultOf r c.in_err-kept.field-0.0)
           (answer_refusal s c.self.invariant.consistent c.args.m there c.args.f c.args.q)
           (fault_by s.keys (logs_around s.members) (claim_in s.members c.args.m c.args.f)
-          (came_in s.keys (logs_around s.members) s.members c.args.q (claim_in s.members c.args.m c.args.f))
+          (holder_response s.keys (logs_around s.members) s.members c.args.q (claim_in s.members c.args.m c.args.f))
           c.in_err-kept.field-0.0
           c.in_err-kept.ensures.refused));
       err = search rules;
@@ -94,9 +94,9 @@ invariant_of-self-2 c =
           (subst (λ (x : GroupState). x.steps < 100000) (sym c.self.view_is) c.requires.few));
       nobody_lacks =
           came_lacks s c.args.m there c.self.inside.unsettled c.self.invariant.nobody_lacks c.answer.new.members.items
-          c.note_claimed.new.self c.claimed-claimed.result c.note_claimed.ensures c.args.f (keyed s.keys)
+          c.note_claimed.new.self c.claimed-claimed.result c.note_claimed.ensures c.args.f (lossless s.keys)
           (record s.tally { attempts = s.tally.attempts + 1 }) (claim_at (world_of s) c.args.m c.args.f)
-          (came_from (keyed s.keys) (world_of s) c.args.q (claim_at (world_of s) c.args.m c.args.f)) claimed
+          (response_from (lossless s.keys) (world_of s) c.args.q (claim_at (world_of s) c.args.m c.args.f)) claimed
           (ap (λ (w : World). w.members)
           (answer_world s c.self.invariant.consistent c.args.m there c.args.f c.args.q c.in_ok-kept.kept
           c.in_ok-kept.ensures.kept c.answer.new.members.items c.in_ok-kept.ensures.members));
@@ -109,7 +109,7 @@ returns c =
     let one = c.parts_of.ensures in
     record {
       taken =
-          subst (λ (x : GroupState). refusal (keyed x.keys) (world_of x) (Event.Answer c.args.m c.args.f c.args.q)
+          subst (λ (x : GroupState). refusal (lossless x.keys) (world_of x) (Event.Answer c.args.m c.args.f c.args.q)
           ≡ None)
           c.self.view_is
           (answer_taken s c.self.invariant.consistent c.args.m there c.args.f c.args.q c.in_ok-kept.kept
@@ -125,15 +125,17 @@ returns c =
           ∙ answer_world s c.self.invariant.consistent c.args.m there c.args.f c.args.q c.in_ok-kept.kept
           c.in_ok-kept.ensures.kept
           c.answer.new.members.items c.in_ok-kept.ensures.members
-          ∙ ap (λ (x : GroupState). after_event (keyed x.keys) (world_of x) (Event.Answer c.args.m c.args.f c.args.q))
+          ∙ ap (λ (x : GroupState).
+          after_event (lossless x.keys) (world_of x) (Event.Answer c.args.m c.args.f c.args.q))
           c.self.view_is;
-      reported =
-          c.answered.ensures ∙ (λ i. answer_reported c.args.m (c.from.ensures i) (c.is_some.ensures i))
-          ∙ ap (answer_reported c.args.m c.args.f)
+      report =
+          c.answered.ensures ∙ (λ i. answer_report c.args.m (c.from.ensures i) (c.is_some.ensures i))
+          ∙ ap (answer_report c.args.m c.args.f)
           (answer_passes s c.self.invariant.consistent c.args.m there c.args.f c.args.q c.in_ok-kept.kept
           c.in_ok-kept.ensures.kept)
-          ∙ ap (λ (x : GroupState). answer_reported c.args.m c.args.f
-          (passes_checks (came_from (keyed x.keys) (world_of x) c.args.q (claim_at (world_of x) c.args.m c.args.f))))
+          ∙ ap (λ (x : GroupState). answer_report c.args.m c.args.f
+          (passes_checks (response_from (lossless x.keys) (world_of x) c.args.q
+          (claim_at (world_of x) c.args.m c.args.f))))
           c.self.view_is;
       joined = tt;
       steps = ap (λ (x : GroupState). x.steps + 1) c.self.view_is;

@@ -9,7 +9,7 @@ use Rattle.repo_member.specs.declared.refusals.PublishRefusal.{PublishRefusal}
 use Rattle.repo_member.specs.declared.refusals.PublishRefusal.TheVariants.{NumbersSpent}
 use Rattle.repo_member.specs.declared.member.block.Blocked.{Blocked}
 use Rattle.bench_world.specs.declared.event.EventError.TheVariants as fault
-use Rattle.bench_world.specs.EventValues.{block_reported}
+use Rattle.bench_world.specs.EventValues.{block_report}
 use Rattle.bench_world.specs.Kept.{world_state}
 use Rattle.bench_world.specs.Steps.{IsFaultOf}
 use Rattle.bench_world.specs.Touching.{blocked_pair}
@@ -41,7 +41,7 @@ returns-in-Err-NumbersSpent g c =
     record {
       taken = tt;
       world = tt;
-      reported = tt;
+      report = tt;
       joined = tt;
       steps = tt;
       keys = search rules;
@@ -70,7 +70,7 @@ invariant_of-self-2 g c =
     c.args.index
     c.args.content.now room c.block.new.self (g.D.Draws.draw c.args.draws.now) c.draw-draw.result
     (c.draw-draw.ensures ∙ ap (g.D.Draws.draw c.args.draws.now c.args.m) c.next_draw.ensures) c.in-Ok.ensures.ok
-    c.in-Ok.blocked c.in-Ok.ensures.reported few c.in-Ok.ensures.object
+    c.in-Ok.blocked c.in-Ok.ensures.answer few c.in-Ok.ensures.object
     c.send_blocked-happened.new.sent.packets c.reserve.new.self.packets c.in_ok-vector.vector.items
     (ap (λ x. x.packets) c.in_ok-reserve.ensures.ok) (c.in_ok-vector.ensures ∙ c.vector.ensures.known)
     c.send_blocked-happened.ensures.sent in
@@ -85,7 +85,7 @@ invariant_of-self-2 g c =
           (noted_so s c.self.invariant.consistent c.args.m there old c.index_mut-member.ensures.value c.args.process
           c.args.index c.args.content.now room c.block.new.self (g.D.Draws.draw c.args.draws.now) c.draw-draw.result
           (c.draw-draw.ensures ∙ ap (g.D.Draws.draw c.args.draws.now c.args.m) c.next_draw.ensures)
-          c.in-Ok.ensures.ok c.in-Ok.blocked c.in-Ok.ensures.reported)
+          c.in-Ok.ensures.ok c.in-Ok.blocked c.in-Ok.ensures.answer)
           (ap (λ (w : World). w.members) after.world);
     }
 
@@ -106,7 +106,7 @@ returns g c =
     c.args.index
     c.args.content.now room c.block.new.self (g.D.Draws.draw c.args.draws.now) c.draw-draw.result
     (c.draw-draw.ensures ∙ ap (g.D.Draws.draw c.args.draws.now c.args.m) c.next_draw.ensures) c.in-Ok.ensures.ok
-    c.in-Ok.blocked c.in-Ok.ensures.reported few c.in-Ok.ensures.object
+    c.in-Ok.blocked c.in-Ok.ensures.answer few c.in-Ok.ensures.object
     c.send_blocked-happened.new.sent.packets c.reserve.new.self.packets c.in_ok-vector.vector.items
     (ap (λ x. x.packets) c.in_ok-reserve.ensures.ok) (c.in_ok-vector.ensures ∙ c.vector.ensures.known)
     c.send_blocked-happened.ensures.sent in
@@ -121,15 +121,15 @@ returns g c =
           after.world
           ∙ ap (λ (x : GroupState). after_event (drawing (g.D.Draws.draw c.args.draws.now)) (world_of x) event)
           c.self.view_is;
-      reported =
+      report =
           reported_so s c.self.invariant.consistent c.args.m there old c.index_mut-member.ensures.value c.args.process
           c.args.index
           c.args.content.now room c.block.new.self (g.D.Draws.draw c.args.draws.now) c.draw-draw.result
           (c.draw-draw.ensures ∙ ap (g.D.Draws.draw c.args.draws.now c.args.m) c.next_draw.ensures) c.in-Ok.ensures.ok
-          c.in-Ok.blocked c.in-Ok.ensures.reported _ (length c.reserve.new.self.packets + 1)
-          c.send_blocked-happened.ensures.reported
+          c.in-Ok.blocked c.in-Ok.ensures.answer _ (length c.reserve.new.self.packets + 1)
+          c.send_blocked-happened.ensures.report
           (ap (λ x. length x.packets + 1) c.in_ok-reserve.ensures.ok)
-          ∙ ap (λ (x : GroupState). block_reported c.args.m (next_seq_at (world_of x) c.args.m) (next_sync (world_of x))
+          ∙ ap (λ (x : GroupState). block_report c.args.m (next_seq_at (world_of x) c.args.m) (next_sync (world_of x))
           (block_at (world_of x) c.args.m c.args.process c.args.index c.args.content.now)) c.self.view_is;
       joined = tt;
       steps = ap (λ (x : GroupState). x.steps + 1) c.self.view_is;

@@ -2,7 +2,7 @@ use Rattle.std.proofs.Common.{◌≡◌, ◌<◌, ◌+◌, None, length, refl, s
 use Rattle.group_model.specs.Refusals.{if_busy}
 use Rattle.group_model.specs.Steps.{claim_at, to_claim, after_claiming}
 use Rattle.repo_member.specs.MemberState.{MemberState}
-use Rattle.bench_world.specs.EventValues.{claim_reported}
+use Rattle.bench_world.specs.EventValues.{claim_report}
 use Rattle.bench_world.specs.Worlds.{GroupState, world_of}
 use Rattle.bench_world.specs.Kept.{world_state}
 use Rattle.bench_world.proofs.Claims.{claim_is, to_claim_is, claimed_state, claimed_world}
@@ -43,15 +43,15 @@ returns c =
           c.args.f c.in-Ok.claim c.in-Ok.ensures.part c.claim.new.self c.in-Ok.ensures.new (c.in-Ok.ensures.idle.0 refl)
           ∙ ap (λ (x : GroupState). after_claiming (world_of x) c.args.m c.args.f (to_claim (world_of x) c.args.m))
           c.self.view_is;
-      reported =
+      report =
           c.claimed.ensures
-          ∙ ap (λ k. claim_reported c.args.m k c.in-Ok.claim) c.from.ensures
-          ∙ ap (claim_reported c.args.m c.args.f)
+          ∙ ap (λ k. claim_report c.args.m k c.in-Ok.claim) c.from.ensures
+          ∙ ap (claim_report c.args.m c.args.f)
           (c.in-Ok.ensures.part
           ∙ sym
           (to_claim_is s c.self.invariant.consistent c.args.m there c.index_mut-member.result.now
           c.index_mut-member.ensures.value))
-          ∙ ap (λ (x : GroupState). claim_reported c.args.m c.args.f (to_claim (world_of x) c.args.m)) c.self.view_is;
+          ∙ ap (λ (x : GroupState). claim_report c.args.m c.args.f (to_claim (world_of x) c.args.m)) c.self.view_is;
       joined = tt;
       steps = ap (λ (x : GroupState). x.steps + 1) c.self.view_is;
       keys = ap (λ (x : GroupState). x.keys) c.self.view_is;

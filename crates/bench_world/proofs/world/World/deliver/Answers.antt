@@ -7,7 +7,7 @@ use Rattle.group_model.specs.Steps.{after_deliver, mode_at}
 use Rattle.svs_sync.specs.Suppression.{mode_of}
 use Rattle.repo_member.specs.MemberState.{member_hears}
 use Rattle.repo_member.specs.MemberState.{MemberState}
-use Rattle.bench_world.specs.EventValues.{delivered_reported}
+use Rattle.bench_world.specs.EventValues.{delivered_report}
 use Rattle.bench_world.specs.Worlds.{GroupState, world_of, drawing}
 use Rattle.bench_world.specs.Kept.{world_state}
 use Rattle.bench_world.proofs.States.{few_draws, member_set}
@@ -31,7 +31,7 @@ invariant_of-self g c =
     let old = c.index_mut-member.result.now in
     let e =
     c.hear_vector-mode.ensures.new
-    ∙ ap (λ (v : List ℕ). member_hears v s.time c.draw-draw.result old) (c.in_ok-reported.ensures ∙ at.same) in
+    ∙ ap (λ (v : List ℕ). member_hears v s.time c.draw-draw.result old) (c.in_ok-received.ensures ∙ at.same) in
     record {
       consistent =
           heard_state s c.self.invariant.consistent c.args.k at.first at.last c.args.m inside old
@@ -54,7 +54,7 @@ returns g c =
     let old = c.index_mut-member.result.now in
     let e =
     c.hear_vector-mode.ensures.new
-    ∙ ap (λ (v : List ℕ). member_hears v s.time c.draw-draw.result old) (c.in_ok-reported.ensures ∙ at.same) in
+    ∙ ap (λ (v : List ℕ). member_hears v s.time c.draw-draw.result old) (c.in_ok-received.ensures ∙ at.same) in
     let after =
     heard_world s c.self.invariant.consistent c.args.k at.first at.last c.args.m inside old c.hear_vector-mode.new.self
     c.index_mut-member.ensures.value (g.D.Draws.draw c.args.draws.now) c.draw-draw.result e
@@ -67,14 +67,14 @@ returns g c =
           after ∙ ap (λ (x : GroupState). after_deliver (drawing (g.D.Draws.draw c.args.draws.now)) (world_of x)
           c.args.m
           (sent_at (world_of x) c.args.k).vector) c.self.view_is;
-      reported =
-          c.delivered.ensures ∙ ap (λ n. delivered_reported n c.args.m c.hear_vector-mode.result) c.from.ensures
-          ∙ ap (delivered_reported c.args.k c.args.m)
+      report =
+          c.delivered.ensures ∙ ap (λ n. delivered_report n c.args.m c.hear_vector-mode.result) c.from.ensures
+          ∙ ap (delivered_report c.args.k c.args.m)
           (c.hear_vector-mode.ensures.mode
           ∙ ap (λ (x : Member). mode_of x.machine.heard)
           (sym (member_set s.members c.args.m c.hear_vector-mode.new.self inside))
           ∙ ap (λ (w : World). mode_of (member w c.args.m).machine.heard) after)
-          ∙ ap (λ (x : GroupState). delivered_reported c.args.k c.args.m
+          ∙ ap (λ (x : GroupState). delivered_report c.args.k c.args.m
           (mode_at (after_deliver (drawing (g.D.Draws.draw c.args.draws.now)) (world_of x) c.args.m
           (sent_at (world_of x) c.args.k).vector) c.args.m)) c.self.view_is;
       joined = tt;
@@ -97,7 +97,7 @@ hear_vector-mode-requires-clause-width g c =
     let inside = subst (λ (x : GroupState). c.args.m < length x.members) (sym c.self.view_is) c.requires.there in
     let at = there (λ (p : SentPacket). p.vector) s.sent c.args.k c.in-Some.numbers.now c.in-Some.ensures in
     let old = c.index_mut-member.result.now in
-    ap length (c.in_ok-reported.ensures ∙ at.same)
+    ap length (c.in_ok-received.ensures ∙ at.same)
     ∙ fits s c.self.invariant.consistent c.args.k at.first at.last c.args.m inside old old
     c.index_mut-member.ensures.value
 
@@ -105,8 +105,8 @@ pub hear_vector-mode-requires-clause-members : goal.hear_vector-mode-requires-cl
 hear_vector-mode-requires-clause-members g c =
     let s = world_state c.self.inside in
     let at = there (λ (p : SentPacket). p.vector) s.sent c.args.k c.in-Some.numbers.now c.in-Some.ensures in
-    few_numbers s c.self.invariant.consistent c.args.k at.first at.last c.in_ok-reported.reported
-    (c.in_ok-reported.ensures ∙ at.same)
+    few_numbers s c.self.invariant.consistent c.args.k at.first at.last c.in_ok-received.received
+    (c.in_ok-received.ensures ∙ at.same)
 
 pub hear_vector-mode-requires-clause-own : goal.hear_vector-mode-requires-clause-own
 hear_vector-mode-requires-clause-own g c =
@@ -116,4 +116,4 @@ hear_vector-mode-requires-clause-own g c =
     let old = c.index_mut-member.result.now in
     no_more s c.self.invariant.consistent c.args.k at.first at.last c.args.m inside old old
     c.index_mut-member.ensures.value
-    c.in_ok-reported.reported (c.in_ok-reported.ensures ∙ at.same)
+    c.in_ok-received.received (c.in_ok-received.ensures ∙ at.same)

@@ -7,12 +7,12 @@ use Rattle.std.specs.Prelude.{Ok}
 use Rattle.group_model.specs.Events.{Event}
 use Rattle.group_model.specs.World.{World, Tally}
 use Rattle.group_model.specs.Refusals.{refusal}
-use Rattle.group_model.specs.Steps.{after_event, claim_at, came_as}
-use Rattle.bench_world.specs.Serving.{keyed, octets_as}
-use Rattle.bench_world.specs.EventValues.{feed_reported}
+use Rattle.group_model.specs.Steps.{after_event, claim_at, response_read}
+use Rattle.bench_world.specs.Serving.{lossless, octets_response}
+use Rattle.bench_world.specs.EventValues.{feed_report}
 use Rattle.bench_world.specs.Replying.{fed_reply}
 use Rattle.bench_world.specs.Steps.{IsFaultOf}
-use Rattle.bench_world.specs.Answering.{claim_in, came_for}
+use Rattle.bench_world.specs.Answering.{claim_in, outside_response}
 use Rattle.bench_world.specs.Worlds.{GroupState, IsConsistentState, nobody, world_of, logs_around}
 use Rattle.bench_world.specs.Kept.{world_state}
 use Rattle.bench_world.proofs.AnswersAndFeeds.{feed_refusal, feed_taken, feed_is, feed_world, feed_state, feed_fits}
@@ -28,20 +28,21 @@ returns-in_err-fed c =
     rw (p.1, p.2) record {
       taken = tt;
       world = tt;
-      reported = tt;
+      report = tt;
       joined = tt;
       steps = tt;
       keys = search rules;
       mirrors = search rules;
       refused =
           subst (λ (x : GroupState). IsFaultOf
-          (refusal (keyed x.keys) (world_of x)
-          (Event.Feed c.args.m c.args.f (λ logs t. octets_as x.keys logs t c.args.octets.now))) c.in_err-fed.field-0.0)
+          (refusal (lossless x.keys) (world_of x)
+          (Event.Feed c.args.m c.args.f (λ logs t. octets_response x.keys logs t c.args.octets.now)))
+          c.in_err-fed.field-0.0)
           c.self.view_is
           (subst (λ r. IsFaultOf r c.in_err-fed.field-0.0)
           (feed_refusal s c.self.invariant.consistent c.args.m there c.args.f c.args.octets.now)
           (fault_by s.keys (logs_around s.members) (claim_in s.members c.args.m c.args.f)
-          (came_for s.keys (logs_around s.members) c.args.octets.now (claim_in s.members c.args.m c.args.f))
+          (outside_response s.keys (logs_around s.members) c.args.octets.now (claim_in s.members c.args.m c.args.f))
           c.in_err-fed.field-0.0
           c.in_err-fed.ensures.refused));
       err = search rules;
@@ -95,9 +96,9 @@ invariant_of-self-2 c =
           (subst (λ (x : GroupState). x.steps < 100000) (sym c.self.view_is) c.requires.few));
       nobody_lacks =
           came_lacks s c.args.m there c.self.inside.unsettled c.self.invariant.nobody_lacks c.feed.new.members.items
-          c.note_claimed.new.self c.claimed-claimed.result c.note_claimed.ensures c.args.f (keyed s.keys) s.tally
+          c.note_claimed.new.self c.claimed-claimed.result c.note_claimed.ensures c.args.f (lossless s.keys) s.tally
           (claim_at (world_of s) c.args.m c.args.f)
-          (came_as (world_of s) (λ logs t. octets_as s.keys logs t c.args.octets.now)
+          (response_read (world_of s) (λ logs t. octets_response s.keys logs t c.args.octets.now)
           (claim_at (world_of s) c.args.m c.args.f)) claimed
           (ap (λ (w : World). w.members)
           (feed_world s c.self.invariant.consistent c.args.m there c.args.f c.args.octets.now
@@ -112,8 +113,8 @@ returns c =
     let one = c.parts_of.ensures in
     record {
       taken =
-          subst (λ (x : GroupState). refusal (keyed x.keys) (world_of x)
-          (Event.Feed c.args.m c.args.f (λ logs t. octets_as x.keys logs t c.args.octets.now))
+          subst (λ (x : GroupState). refusal (lossless x.keys) (world_of x)
+          (Event.Feed c.args.m c.args.f (λ logs t. octets_response x.keys logs t c.args.octets.now))
           ≡ None) c.self.view_is
           (feed_taken s c.self.invariant.consistent c.args.m there c.args.f c.args.octets.now c.kept_octets-kept.result
           (c.in_ok-fed.ensures.kept ∙ ap (λ k. Ok k) (sym c.kept_octets-kept.ensures)));
@@ -123,14 +124,14 @@ returns c =
           ∙ feed_world s c.self.invariant.consistent c.args.m there c.args.f c.args.octets.now c.kept_octets-kept.result
           (c.in_ok-fed.ensures.kept ∙ ap (λ k. Ok k) (sym c.kept_octets-kept.ensures)) c.feed.new.members.items
           c.in_ok-fed.ensures.members
-          ∙ ap (λ (x : GroupState). after_event (keyed x.keys) (world_of x)
-          (Event.Feed c.args.m c.args.f (λ logs t. octets_as x.keys logs t c.args.octets.now))) c.self.view_is;
-      reported =
+          ∙ ap (λ (x : GroupState). after_event (lossless x.keys) (world_of x)
+          (Event.Feed c.args.m c.args.f (λ logs t. octets_response x.keys logs t c.args.octets.now))) c.self.view_is;
+      report =
           c.fed_happened.ensures ∙ ap (λ n. fed_reply c.args.m n c.in_ok-fed.fed) c.from.ensures
           ∙ feed_is s c.self.invariant.consistent c.args.m there c.args.f c.args.octets.now c.in_ok-fed.fed
           c.in_ok-fed.ensures.fed
           ∙ ap (λ (x : GroupState).
-          feed_reported x.keys (world_of x) c.args.m c.args.f c.args.octets.now
+          feed_report x.keys (world_of x) c.args.m c.args.f c.args.octets.now
           (claim_at (world_of x) c.args.m c.args.f))
           c.self.view_is;
       joined = tt;

@@ -1,7 +1,7 @@
 use Rattle.std.proofs.Common.{◌<◌, length, refl, sym, ap, ◌∙◌, subst, arith, ◌+◌}
 use Rattle.group_model.specs.Steps.{planned_parts, fetched_parts, attempts_made, after_fetch}
 use Rattle.bench_world.specs.Serving.{environment}
-use Rattle.bench_world.specs.EventValues.{Reported}
+use Rattle.bench_world.specs.EventValues.{ReportValue}
 use Rattle.bench_world.specs.Worlds.{GroupState, world_of, only_members}
 use Rattle.bench_world.specs.Kept.{world_state}
 use Rattle.bench_world.proofs.States.{few_logs, tried_few}
@@ -61,7 +61,7 @@ invariant_of-self-2 g c =
     let s = world_state c.self.inside in
     let few = subst (λ (x : GroupState). x.steps < 100000) (sym c.self.view_is) c.requires.few in
     let there = subst (λ (x : GroupState). c.args.m < length x.members) (sym c.self.view_is) c.requires.there in
-    let out = environment s.keys (λ _ _. 0) (g.N.Net.passes c.args.net.now) in
+    let env = environment s.keys (λ _ _. 0) (g.N.Net.passes c.args.net.now) in
     record {
       consistent =
           fetch_state s c.self.invariant.consistent few (g.N.Net.passes c.args.net.now) c.args.m c.args.tries
@@ -73,9 +73,9 @@ invariant_of-self-2 g c =
       nobody_lacks =
           nothing_lacks s c.args.m there c.self.inside.unsettled c.self.invariant.nobody_lacks
           c.fetch_at-fetched.new.members.items
-          (after_fetch out (only_members s.members) c.args.m c.args.tries c.args.loss)
+          (after_fetch env (only_members s.members) c.args.m c.args.tries c.args.loss)
           c.in-Ok.ensures.members
-          (λ n. fetch_spreads n (only_members s.members) c.args.m (inside_too s c.args.m there) out
+          (λ n. fetch_spreads n (only_members s.members) c.args.m (inside_too s c.args.m there) env
           c.args.tries c.args.loss);
     }
 
@@ -94,10 +94,10 @@ returns g c =
           ∙ ap (λ (x : GroupState). after_fetch (environment x.keys (λ _ _. 0) (g.N.Net.passes c.args.net.now))
           (world_of x)
           c.args.m c.args.tries c.args.loss) c.self.view_is;
-      reported =
-          (λ i. Reported.Fetch c.args.m (c.in-Ok.ensures.planned i) ((c.from-2.ensures ∙ c.in-Ok.ensures.parts) i)
+      report =
+          (λ i. ReportValue.Fetch c.args.m (c.in-Ok.ensures.planned i) ((c.from-2.ensures ∙ c.in-Ok.ensures.parts) i)
           (c.in-Ok.ensures.attempts i))
-          ∙ ap (λ (x : GroupState). Reported.Fetch c.args.m (length (planned_parts (world_of x) c.args.m))
+          ∙ ap (λ (x : GroupState). ReportValue.Fetch c.args.m (length (planned_parts (world_of x) c.args.m))
           (length (fetched_parts (environment x.keys (λ _ _. 0) (g.N.Net.passes c.args.net.now)) (world_of x) c.args.m
           c.args.tries c.args.loss))
           (attempts_made (environment x.keys (λ _ _. 0) (g.N.Net.passes c.args.net.now)) (world_of x) c.args.m

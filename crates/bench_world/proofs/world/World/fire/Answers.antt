@@ -2,7 +2,7 @@ use Rattle.std.proofs.Common.{List, refl, ◌<◌, ◌+◌, length, sym, ap, ◌
 use Rattle.bench_net.specs.SentList.{SentPacket}
 use Rattle.group_model.specs.Steps.{after_fire, timer_at, next_sync}
 use Rattle.repo_member.specs.MemberState.{MemberState}
-use Rattle.bench_world.specs.EventValues.{fired_reported}
+use Rattle.bench_world.specs.EventValues.{fired_report}
 use Rattle.bench_world.specs.Worlds.{GroupState, IsConsistentState, in_groups, world_of, drawing}
 use Rattle.bench_world.specs.Kept.{world_state}
 use Rattle.bench_world.specs.Unsettled.{NobodyLacks}
@@ -58,13 +58,13 @@ returns g c =
           ∙ ap (λ (x : GroupState).
           after_fire (drawing (g.D.Draws.draw c.args.draws.now)) (world_of x) c.args.m (timer_at (world_of x) c.args.m))
           c.self.view_is;
-      reported =
+      report =
           fires_so s c.self.invariant.consistent c.args.m there c.index_mut-member.result.now
           c.index_mut-member.ensures.value
           (length c.reserve.new.self.packets + 1) c.in-Ok.fire _ c.in-Ok.ensures.fire
-          c.send_fired-happened.ensures.reported
+          c.send_fired-happened.ensures.report
           (ap (λ x. length x.packets + 1) c.in_ok-reserve.ensures.ok)
-          ∙ ap (λ (x : GroupState). fired_reported c.args.m (next_sync (world_of x)) (timer_at (world_of x) c.args.m))
+          ∙ ap (λ (x : GroupState). fired_report c.args.m (next_sync (world_of x)) (timer_at (world_of x) c.args.m))
           c.self.view_is;
       joined = tt;
       steps = ap (λ (x : GroupState). x.steps + 1) c.self.view_is;

@@ -8,23 +8,23 @@ use Rattle.group_model.specs.Steps.{after_hear}
 use Rattle.repo_member.specs.MemberState.{MemberState}
 use Rattle.repo_member.specs.Verdicts.{group_verdict}
 use Rattle.repo_member.specs.declared.refusals.HearRefusal.TheVariants as hear
-use Rattle.bench_world.specs.EventValues.{Reported}
-use Rattle.bench_world.specs.Hearing.{reported_sync}
+use Rattle.bench_world.specs.EventValues.{ReportValue}
+use Rattle.bench_world.specs.Hearing.{accepted_sync}
 use Rattle.bench_world.specs.Readings.{read_as}
 use Rattle.bench_world.specs.Steps.{IsFaultOf}
 use Rattle.bench_world.specs.Worlds.{GroupState, nobody, world_of, drawing}
 use Rattle.bench_world.specs.Kept.{world_state}
 use Rattle.bench_world.proofs.States.{few_draws}
-use Rattle.bench_world.proofs.Hearings.{hears_reported, refused_so, foreign_so, sent_taken, heard_world, heard_state}
-use Rattle.bench_world.proofs.Hearings.{heard_reported}
+use Rattle.bench_world.proofs.Hearings.{hears_received, refused_so, foreign_so, sent_taken, heard_world, heard_state}
+use Rattle.bench_world.proofs.Hearings.{heard_received}
 use Rattle.bench_world.proofs.NobodyLacking.{same_lacks}
 use Rattle.bench_world.proofs.world.World.hear.Goals as goal
 
 sync_apart : (refusal : SyncRefusal) → hear.Sync refusal ≡ hear.NoMemory → ⊥
 sync_apart refusal h = cc
 
-ahead_apart : (own reported : ℕ) → hear.OwnNumberAhead own reported ≡ hear.NoMemory → ⊥
-ahead_apart own reported h = cc
+ahead_apart : (own received : ℕ) → hear.OwnNumberAhead own received ≡ hear.NoMemory → ⊥
+ahead_apart own received h = cc
 
 pub returns-in-Err-Sync : goal.returns-in-Err-Sync
 returns-in-Err-Sync g c =
@@ -47,10 +47,10 @@ returns-in-Err-Sync g c =
           ∙ subst (λ (x : GroupState). world_of x
           ≡ after_hear (drawing (g.D.Draws.draw c.args.draws.now)) (world_of x) c.args.m
           (read_as (group_verdict x.keys c.args.octets.now))) c.self.view_is (sym all.1);
-      reported =
-          ap (Reported.HearRefused c.args.m) (sym c.in-Err-Sync.field-0-is)
-          ∙ subst (λ (x : GroupState). Reported.HearRefused c.args.m c.in-Err-Sync.field-0
-          ≡ hears_reported (drawing (g.D.Draws.draw c.args.draws.now)) (world_of x) c.args.m
+      report =
+          ap (ReportValue.HearRefused c.args.m) (sym c.in-Err-Sync.field-0-is)
+          ∙ subst (λ (x : GroupState). ReportValue.HearRefused c.args.m c.in-Err-Sync.field-0
+          ≡ hears_received (drawing (g.D.Draws.draw c.args.draws.now)) (world_of x) c.args.m
           (group_verdict x.keys c.args.octets.now)) c.self.view_is (sym all.2);
       joined = tt;
       steps = c.count.ensures.steps;
@@ -82,10 +82,10 @@ returns-in-Err-OwnNumberAhead g c =
           ∙ subst (λ (x : GroupState). world_of x
           ≡ after_hear (drawing (g.D.Draws.draw c.args.draws.now)) (world_of x) c.args.m
           (read_as (group_verdict x.keys c.args.octets.now))) c.self.view_is (sym all.1);
-      reported =
-          ap (Reported.HearRefused c.args.m) (sym c.in-Err-OwnNumberAhead.field-0-is)
-          ∙ subst (λ (x : GroupState). Reported.HearRefused c.args.m c.in-Err-OwnNumberAhead.field-0
-          ≡ hears_reported (drawing (g.D.Draws.draw c.args.draws.now)) (world_of x) c.args.m
+      report =
+          ap (ReportValue.HearRefused c.args.m) (sym c.in-Err-OwnNumberAhead.field-0-is)
+          ∙ subst (λ (x : GroupState). ReportValue.HearRefused c.args.m c.in-Err-OwnNumberAhead.field-0
+          ≡ hears_received (drawing (g.D.Draws.draw c.args.draws.now)) (world_of x) c.args.m
           (group_verdict x.keys c.args.octets.now)) c.self.view_is (sym all.2);
       joined = tt;
       steps = c.count-in-Err-OwnNumberAhead.ensures.steps;
@@ -113,13 +113,13 @@ returns-in_err-mode g c =
     ∙ get_or_default s.members c.args.m c.index.result.now nobody there
     ∙ sym
     (c.index_mut-member.ensures.value ∙ get_or_default s.members c.args.m c.index_mut-member.result.now nobody there) in
-    let reported = ap (λ (a : MemberState). reported_sync (length a.log) c.args.m r) (sym same)
-    ∙ c.in-Ok.ensures.reported in
+    let received = ap (λ (a : MemberState). accepted_sync (length a.log) c.args.m r) (sym same)
+    ∙ c.in-Ok.ensures.received in
     let p = err_from_is_err_and c.from_residual.result c.from_residual.ensures.1 in
     rw (p.1, p.2) record {
       taken = tt;
       world = tt;
-      reported = tt;
+      report = tt;
       joined = tt;
       steps = tt;
       keys = search rules;
@@ -130,9 +130,9 @@ returns-in_err-mode g c =
           c.in_err-mode.field-0.0)
           c.self.view_is
           (foreign_so s c.self.invariant.consistent c.args.m there old c.index_mut-member.ensures.value r
-          c.in-Ok.reported.0
-          c.in-Ok.reported.1
-          reported c.in_err-mode.field-0.0 c.in_err-mode.ensures.foreign);
+          c.in-Ok.received.0
+          c.in-Ok.received.1
+          received c.in_err-mode.field-0.0 c.in_err-mode.ensures.foreign);
       err = grind (arith, common_steps);
     }
 
@@ -147,15 +147,15 @@ invariant_of-self-2 g c =
     ∙ get_or_default s.members c.args.m c.index.result.now nobody there
     ∙ sym
     (c.index_mut-member.ensures.value ∙ get_or_default s.members c.args.m c.index_mut-member.result.now nobody there) in
-    let reported = ap (λ (a : MemberState). reported_sync (length a.log) c.args.m r) (sym same)
-    ∙ c.in-Ok.ensures.reported in
+    let received = ap (λ (a : MemberState). accepted_sync (length a.log) c.args.m r) (sym same)
+    ∙ c.in-Ok.ensures.received in
     let drawn = c.draw-draw.ensures ∙ ap (g.D.Draws.draw c.args.draws.now c.args.m) c.next_draw.ensures in
     record {
       consistent =
           heard_state s c.self.invariant.consistent c.args.m there old c.index_mut-member.ensures.value r
-          c.in-Ok.reported.0
-          c.in-Ok.reported.1
-          reported c.in_ok-mode.ensures.sent (g.D.Draws.draw c.args.draws.now) c.hear_sent.new.member c.draw-draw.result
+          c.in-Ok.received.0
+          c.in-Ok.received.1
+          received c.in_ok-mode.ensures.sent (g.D.Draws.draw c.args.draws.now) c.hear_sent.new.member c.draw-draw.result
           c.in_ok-mode.ensures.ok drawn
           (subst (λ (x : GroupState). x.steps < 100000) (sym c.self.view_is) c.requires.few);
       nobody_lacks =
@@ -176,8 +176,8 @@ returns g c =
     ∙ get_or_default s.members c.args.m c.index.result.now nobody there
     ∙ sym
     (c.index_mut-member.ensures.value ∙ get_or_default s.members c.args.m c.index_mut-member.result.now nobody there) in
-    let reported = ap (λ (a : MemberState). reported_sync (length a.log) c.args.m r) (sym same)
-    ∙ c.in-Ok.ensures.reported in
+    let received = ap (λ (a : MemberState). accepted_sync (length a.log) c.args.m r) (sym same)
+    ∙ c.in-Ok.ensures.received in
     let drawn = c.draw-draw.ensures ∙ ap (g.D.Draws.draw c.args.draws.now c.args.m) c.next_draw.ensures in
     record {
       taken =
@@ -186,27 +186,27 @@ returns g c =
           ≡ None)
           c.self.view_is
           (sent_taken s c.self.invariant.consistent c.args.m there old c.index_mut-member.ensures.value r
-          c.in-Ok.reported.0
-          c.in-Ok.reported.1
-          reported c.in_ok-mode.ensures.sent);
+          c.in-Ok.received.0
+          c.in-Ok.received.1
+          received c.in_ok-mode.ensures.sent);
       world =
           heard_world s c.self.invariant.consistent c.args.m there old c.index_mut-member.ensures.value r
-          c.in-Ok.reported.0
-          c.in-Ok.reported.1
-          reported c.in_ok-mode.ensures.sent (g.D.Draws.draw c.args.draws.now) c.hear_sent.new.member
+          c.in-Ok.received.0
+          c.in-Ok.received.1
+          received c.in_ok-mode.ensures.sent (g.D.Draws.draw c.args.draws.now) c.hear_sent.new.member
           c.draw-draw.result
           c.in_ok-mode.ensures.ok drawn
           ∙ ap (λ (x : GroupState). after_hear (drawing (g.D.Draws.draw c.args.draws.now)) (world_of x) c.args.m
           (read_as (group_verdict x.keys c.args.octets.now))) c.self.view_is;
-      reported =
+      report =
           c.heard.ensures
-          ∙ heard_reported s c.self.invariant.consistent c.args.m there old c.index_mut-member.ensures.value r
-          c.in-Ok.reported.0
-          c.in-Ok.reported.1
-          reported c.in_ok-mode.ensures.sent (g.D.Draws.draw c.args.draws.now) c.hear_sent.new.member
+          ∙ heard_received s c.self.invariant.consistent c.args.m there old c.index_mut-member.ensures.value r
+          c.in-Ok.received.0
+          c.in-Ok.received.1
+          received c.in_ok-mode.ensures.sent (g.D.Draws.draw c.args.draws.now) c.hear_sent.new.member
           c.draw-draw.result
           c.in_ok-mode.ensures.ok drawn c.in_ok-mode.mode c.in_ok-mode.ensures.mode
-          ∙ ap (λ (x : GroupState). hears_reported (drawing (g.D.Draws.draw c.args.draws.now)) (world_of x) c.args.m
+          ∙ ap (λ (x : GroupState). hears_received (drawing (g.D.Draws.draw c.args.draws.now)) (world_of x) c.args.m
           (group_verdict x.keys c.args.octets.now)) c.self.view_is;
       joined = tt;
       steps = ap (λ (x : GroupState). x.steps + 1) c.self.view_is;

@@ -39,7 +39,7 @@ returns c =
           ∙ ap (λ (x : GroupState).
           with_member (world_of x) c.args.m (member_with_claim c.args.f None (member (world_of x) c.args.m)))
           c.self.view_is;
-      reported = grind (arith, common_steps);
+      report = grind (arith, common_steps);
       joined = tt;
       steps = ap (λ (x : GroupState). x.steps + 1) c.self.view_is;
       keys = ap (λ (x : GroupState). x.keys) c.self.view_is;

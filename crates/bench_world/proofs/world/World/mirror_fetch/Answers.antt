@@ -3,7 +3,7 @@ use Rattle.std.specs.Prelude.{slice_set, sum, sum_by}
 use Rattle.std.proofs.lemmas.List.{get_or_default, get_or-set_same}
 use Rattle.repo_holdings.specs.Taking.{Fetched}
 use Rattle.repo_member.specs.MemberState.{MemberState}
-use Rattle.repo_member.specs.InGroup.{that_came}
+use Rattle.repo_member.specs.InGroup.{parts_fetched}
 use Rattle.repo_mirror.specs.MirrorState.{MirrorState}
 use Rattle.bench_world.specs.Conditions.{CanFetchFor}
 use Rattle.bench_world.specs.MirrorSteps.{no_mirror, mirror_at, mirror_fetched, mirror_fetches}
@@ -150,7 +150,7 @@ returns-clause-kept g c =
     let m : MirrorState = mirror_at s.mirrors c.args.i in
     c.in_ok-counts.ensures.parts
     ∙ ap (λ (as_ : List MemberState). length
-    (that_came (mirror_fetched (g.N.Net.passes c.args.net.now) as_ c.args.i c.args.tries c.args.loss m)))
+    (parts_fetched (mirror_fetched (g.N.Net.passes c.args.net.now) as_ c.args.i c.args.tries c.args.loss m)))
     c.as_slice.ensures.value
     ∙ ap length
     (gets_are (g.N.Net.passes c.args.net.now) s.keys (world_of s) c.self.invariant.consistent.are s.members refl m

@@ -3,7 +3,7 @@ use Rattle.group_model.specs.World.{Issued}
 use Rattle.repo_mirror.specs.MirrorState.{MirrorState}
 use Rattle.bench_world.specs.IssuedList.{IssuedList}
 use Rattle.bench_world.specs.Worlds.{IsConsistentState, in_groups, world_of}
-use Rattle.bench_world.proofs.Openings.{opening_state, opening_is}
+use Rattle.bench_world.proofs.Openings.{initial_state, opening_is}
 use Rattle.bench_world.proofs.Lacking.{all_touched}
 use Rattle.bench_world.proofs.MirrorsLacking.{all_mirrors_touched}
 use Rattle.bench_world.proofs.world.World.new.Goals as goal
@@ -34,7 +34,7 @@ invariant_of-result g c =
             mirrors = [];
           }))
           (sym (ap (λ (x : IssuedList). x.commands) c.new-2.ensures))
-          (opening_state c.args.group c.is_sound.ensures (g.D.Draws.draw c.args.draws.now)
+          (initial_state c.args.group c.cite_soundness.ensures (g.D.Draws.draw c.args.draws.now)
           c.in_ok-members.members.items c.new.result.packets c.in_ok-members.ensures
           (ap (λ x. x.packets) c.new.ensures)));
       nobody_lacks =
@@ -58,5 +58,5 @@ returns-clause-world g c =
       steps = 0;
       mirrors = [];
     })) (ap (λ (x : IssuedList). x.commands) c.new-2.ensures)
-    ∙ opening_is c.args.group c.is_sound.ensures (g.D.Draws.draw c.args.draws.now)
+    ∙ opening_is c.args.group c.cite_soundness.ensures (g.D.Draws.draw c.args.draws.now)
     c.in_ok-members.members.items c.new.result.packets c.in_ok-members.ensures (ap (λ x. x.packets) c.new.ensures)

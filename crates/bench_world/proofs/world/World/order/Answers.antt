@@ -4,7 +4,7 @@ use Rattle.group_model.specs.Refusals.{if_unissued}
 use Rattle.group_model.specs.World.{World}
 use Rattle.group_model.specs.Steps.{after_order, order_answer}
 use Rattle.repo_member.specs.Commanded as commanded
-use Rattle.bench_world.specs.EventValues.{order_reported}
+use Rattle.bench_world.specs.EventValues.{order_report}
 use Rattle.bench_world.specs.Kept.{world_state}
 use Rattle.bench_world.specs.Steps.{IsFaultOf}
 use Rattle.bench_world.specs.Worlds.{GroupState, world_of}
@@ -71,15 +71,15 @@ returns c =
           ∙ ap (λ (x : GroupState). after_order (world_of x) c.args.m
           (commanded.order_of x.keys c.args.m c.args.octets.now))
           c.self.view_is;
-      reported =
+      report =
           c.ordered.ensures
-          ∙ ap (order_reported c.args.m)
+          ∙ ap (order_report c.args.m)
           (c.in_ok-answered.ensures.answer
           ∙ ap (λ (k : ℕ). commanded.member_order_answer (commanded.order_of s.keys k c.args.octets.now) old) number
           ∙ order_answered s c.self.invariant.consistent c.args.m there old c.index_mut-member.ensures.value
           (commanded.order_of s.keys c.args.m c.args.octets.now))
           ∙ ap (λ (x : GroupState).
-          order_reported c.args.m (order_answer (world_of x) c.args.m
+          order_report c.args.m (order_answer (world_of x) c.args.m
           (commanded.order_of x.keys c.args.m c.args.octets.now)))
           c.self.view_is;
       joined = tt;
@@ -98,7 +98,7 @@ returns-in_err-verdict c =
     rw (p.1, p.2) record {
       taken = tt;
       world = tt;
-      reported = tt;
+      report = tt;
       joined = tt;
       steps = tt;
       keys = refl;

@@ -46,7 +46,7 @@ returns g c =
           (c.draw-draw.ensures ∙ ap (g.D.Draws.draw c.args.draws.now c.args.m) c.next_draw.ensures) c.restart.ensures
           ∙ ap (λ (x : GroupState). after_restart (drawing (g.D.Draws.draw c.args.draws.now)) (world_of x) c.args.m)
           c.self.view_is;
-      reported = search rules;
+      report = search rules;
       joined = tt;
       steps = ap (λ (x : GroupState). x.steps + 1) c.self.view_is;
       keys = ap (λ (x : GroupState). x.keys) c.self.view_is;

@@ -17,14 +17,14 @@ loop-event-init g c = record {
   steps = omega arith;
   keys = refl;
   mirrors = refl;
-  many = length-map c.args.self.now.members in_group ∙ c.is_sound.ensures.names;
+  many = length-map c.args.self.now.members in_group ∙ c.cite_soundness.ensures.names;
   taken = tt;
   world = refl;
 }
 
 pub loop-event-preserved : goal.loop-event-preserved
 loop-event-preserved g c =
-    let out = environment c.args.self.now.keys (g.D.Draws.draw c.args.draws.now) (g.N.Net.passes c.args.net.now) in
+    let env = environment c.args.self.now.keys (g.D.Draws.draw c.args.draws.now) (g.N.Net.passes c.args.net.now) in
     let inv = c.loop-event.invariant in
     let i = c.loop-event.event-index in
     let inside : c.loop-event.event-index < length c.args.events.now =
@@ -52,30 +52,30 @@ loop-event-preserved g c =
       keys = c.step.ensures.keys ∙ inv.keys;
       mirrors = c.step.ensures.mirrors ∙ inv.mirrors;
       many =
-          many_more out c.args.self.now.keys (world_of c.args.self.now) c.args.events.now i inside item c.event-item.is
+          many_more env c.args.self.now.keys (world_of c.args.self.now) c.args.events.now i inside item c.event-item.is
           (world_of c.loop-event.self) (world_of c.step.new.self) (length c.args.self.now.keys.members.names) inv.many
-          ready inv.taken inv.world not_refused stepped c.is_sound.ensures.sound;
+          ready inv.taken inv.world not_refused stepped c.cite_soundness.ensures.sound;
       taken =
-          taken_more out c.args.self.now.keys (world_of c.args.self.now) c.args.events.now i inside item c.event-item.is
+          taken_more env c.args.self.now.keys (world_of c.args.self.now) c.args.events.now i inside item c.event-item.is
           (world_of c.loop-event.self) (world_of c.step.new.self) (length c.args.self.now.keys.members.names) inv.many
           ready inv.taken inv.world not_refused stepped;
       world =
-          world_more out c.args.self.now.keys (world_of c.args.self.now) c.args.events.now i inside item c.event-item.is
+          world_more env c.args.self.now.keys (world_of c.args.self.now) c.args.events.now i inside item c.event-item.is
           (world_of c.loop-event.self) (world_of c.step.new.self) (length c.args.self.now.keys.members.names) inv.many
           ready inv.taken inv.world not_refused stepped;
     }
 
 pub returns-clause-joined : goal.returns-clause-joined
 returns-clause-joined g c =
-    let out = environment c.args.self.now.keys (g.D.Draws.draw c.args.draws.now) (g.N.Net.passes c.args.net.now) in
+    let env = environment c.args.self.now.keys (g.D.Draws.draw c.args.draws.now) (g.N.Net.passes c.args.net.now) in
     let all : c.loop-event.event-index ≡ length c.args.events.now =
     omega (arith, c.loop-event-test.false, c.loop-event.auto.event-index-end) in
-    all_joined out c.args.self.now.keys (world_of c.args.self.now) c.args.events.now c.is_sound.ensures.sound
+    all_joined env c.args.self.now.keys (world_of c.args.self.now) c.args.events.now c.cite_soundness.ensures.sound
     c.loop-event.event-index all (world_of c.loop-event.self) c.loop-event.invariant.taken c.loop-event.invariant.world
 
 pub returns-in-Err-clause-stopped : goal.returns-in-Err-clause-stopped
 returns-in-Err-clause-stopped g c =
-    let out = environment c.args.self.now.keys (g.D.Draws.draw c.args.draws.now) (g.N.Net.passes c.args.net.now) in
+    let env = environment c.args.self.now.keys (g.D.Draws.draw c.args.draws.now) (g.N.Net.passes c.args.net.now) in
     let inv = c.loop-event.invariant in
     let i = c.loop-event.event-index in
     let inside : c.loop-event.event-index < length c.args.events.now =
@@ -94,8 +94,8 @@ returns-in-Err-clause-stopped g c =
     subst
     (λ k. IsStopped (environment c.args.self.now.keys (g.D.Draws.draw c.args.draws.now) (g.N.Net.passes c.args.net.now))
     c.args.self.now (event_values c.args.events.now) k c.in-Err.fault c.step.new.self) (sym inv.made)
-    (stopped_here out c.args.self.now.keys (world_of c.args.self.now) c.args.events.now i inside item c.event-item.is
+    (stopped_here env c.args.self.now.keys (world_of c.args.self.now) c.args.events.now i inside item c.event-item.is
     (world_of c.loop-event.self) (world_of c.step.new.self) (length c.args.self.now.keys.members.names) inv.many ready
     inv.taken inv.world
-    out c.args.self.now c.loop-event.self c.step.new.self c.in-Err.fault refl refl refl refl inv.steps
+    env c.args.self.now c.loop-event.self c.step.new.self c.in-Err.fault refl refl refl refl inv.steps
     inv.keys because c.in-Err.ensures.err)

@@ -2,10 +2,10 @@ use Rattle.std.proofs.Common.{◌≡◌, ◌<◌, ◌+◌, ◌++◌, List, lengt
 use Rattle.std.proofs.lemmas.Result.{err_from_is_err_and}
 use Rattle.std.proofs.lemmas.List.{length-map}
 use Rattle.bench_net.specs.SentList.{SentPacket}
-use Rattle.group_model.specs.Steps.{settle_gains, after_gathering}
-use Rattle.bench_world.specs.Serving.{keyed}
-use Rattle.bench_world.specs.Runs.{HaveSettledPart}
-use Rattle.bench_world.specs.Settling.{reported_of}
+use Rattle.group_model.specs.Steps.{settle_new_parts, after_gathering}
+use Rattle.bench_world.specs.Serving.{lossless}
+use Rattle.bench_world.specs.Runs.{HaveSettledPartly}
+use Rattle.bench_world.specs.Settling.{sent_sync}
 use Rattle.bench_world.specs.Worlds.{GroupState, IsConsistentState, only_members, tells, world_of}
 use Rattle.bench_world.specs.Kept.{world_state}
 use Rattle.bench_world.proofs.States.{few_logs, few_members, few_sent, tried_few}
@@ -33,9 +33,10 @@ returns-in_err-reserve-clause-err g c =
     let s = world_state c.self.inside in
     let few = subst (λ (x : GroupState). x.steps < 100000) (sym c.self.view_is) c.requires.few in
     where_err c.from_residual.result (
-    subst (λ (x : GroupState). HaveSettledPart x (record s { sent = c.reserve.new.self.packets; steps = s.steps + 1 }))
+    subst (λ (x : GroupState).
+    HaveSettledPartly x (record s { sent = c.reserve.new.self.packets; steps = s.steps + 1 }))
     c.self.view_is
-    (subst (λ (ps : List SentPacket). HaveSettledPart s (record s { sent = ps; steps = s.steps + 1 }))
+    (subst (λ (ps : List SentPacket). HaveSettledPartly s (record s { sent = ps; steps = s.steps + 1 }))
     (sym (ap (λ x. x.packets) c.in_err-reserve.ensures.err)) (partly_before s c.self.invariant.consistent few)))
 
 pub settle_members-requires : goal.settle_members-requires
@@ -89,12 +90,12 @@ returns-in_err-settled-clause-err g c =
     let same : c.reserve.new.self.packets ≡ s.sent = ap (λ x. x.packets) c.in_ok-reserve.ensures.ok in
     let p = err_from_is_err_and c.from_residual-in_err-settled.result c.from_residual-in_err-settled.ensures.1 in
     rw p.1
-    (subst (λ (x : GroupState). HaveSettledPart x (record s {
+    (subst (λ (x : GroupState). HaveSettledPartly x (record s {
       members = c.settle_members.new.members.items;
       sent = c.reserve.new.self.packets;
       steps = s.steps + 1;
     })) c.self.view_is
-    (subst (λ (ps : List SentPacket). HaveSettledPart s
+    (subst (λ (ps : List SentPacket). HaveSettledPartly s
     (record s { members = c.settle_members.new.members.items; sent = ps; steps = s.steps + 1 })) (sym same)
     (partly s c.self.invariant.consistent few c.settle_members.new.members.items c.settle_members.ensures.len
     c.settle_members.ensures.numbers c.settle_members.ensures.consistent
@@ -103,9 +104,9 @@ returns-in_err-settled-clause-err g c =
 pub send_all-requires-clause-room : goal.send_all-requires-clause-room
 send_all-requires-clause-room g c =
     let s = world_state c.self.inside in
-    let a : length (map reported_of c.in_ok-settled.settled.0.items) ≡ length (map (tells s.keys) s.members) =
-    ap length c.in_ok-settled.ensures.reported in
-    let b = length-map c.in_ok-settled.settled.0.items reported_of in
+    let a : length (map sent_sync c.in_ok-settled.settled.0.items) ≡ length (map (tells s.keys) s.members) =
+    ap length c.in_ok-settled.ensures.syncs in
+    let b = length-map c.in_ok-settled.settled.0.items sent_sync in
     let d = length-map s.members (tells s.keys) in
     let room = ap (λ x. x.spare) c.in_ok-reserve.ensures.ok in
     omega (arith, a, b, d, room, c.len.ensures, c.self.inside.members.ok, c.in_ok-settled.settled.0.ok)
@@ -113,9 +114,9 @@ send_all-requires-clause-room g c =
 pub send_all-requires-clause-few : goal.send_all-requires-clause-few
 send_all-requires-clause-few g c =
     let s = world_state c.self.inside in
-    let a : length (map reported_of c.in_ok-settled.settled.0.items) ≡ length (map (tells s.keys) s.members) =
-    ap length c.in_ok-settled.ensures.reported in
-    let b = length-map c.in_ok-settled.settled.0.items reported_of in
+    let a : length (map sent_sync c.in_ok-settled.settled.0.items) ≡ length (map (tells s.keys) s.members) =
+    ap length c.in_ok-settled.ensures.syncs in
+    let b = length-map c.in_ok-settled.settled.0.items sent_sync in
     let d = length-map s.members (tells s.keys) in
     let e : length c.reserve.new.self.packets ≡ length s.sent = ap (λ x. length x.packets) c.in_ok-reserve.ensures.ok in
     let n = few_members s c.self.invariant.consistent in
@@ -127,15 +128,15 @@ overflow_add-self-3 g c =
     let s = world_state c.self.inside in
     let few = subst (λ (x : GroupState). x.steps < 100000) (sym c.self.view_is) c.requires.few in
     let sent : c.send_all.new.sent.packets ≡ c.self.inside.sent.packets
-    ++ map reported_of c.in_ok-settled.settled.0.items =
+    ++ map sent_sync c.in_ok-settled.settled.0.items =
     c.send_all.ensures
-    ∙ ap (λ (ps : List SentPacket). ps ++ map reported_of c.in_ok-settled.settled.0.items)
+    ∙ ap (λ (ps : List SentPacket). ps ++ map sent_sync c.in_ok-settled.settled.0.items)
     (ap (λ x. x.packets) c.in_ok-reserve.ensures.ok) in
     let count : c.len-count.result ≡ length c.settle_members.new.members.items =
     omega (arith, c.len-count.ensures, c.settle_members.new.members.ok) in
     let fits =
     settle_fits s c.self.invariant.consistent few c.settle_members.new.members.items c.in_ok-settled.ensures.members
-    c.send_all.new.sent.packets c.in_ok-settled.settled.0.items sent c.in_ok-settled.ensures.reported
+    c.send_all.new.sent.packets c.in_ok-settled.settled.0.items sent c.in_ok-settled.ensures.syncs
     c.len-count.result c.saturating_sub.result c.in_ok-settled.settled.1 c.in_ok-settled.settled.2 count
     c.saturating_sub.ensures
     c.in_ok-settled.ensures.parts c.in_ok-settled.ensures.octets in
@@ -146,15 +147,15 @@ overflow_add-self-4 g c =
     let s = world_state c.self.inside in
     let few = subst (λ (x : GroupState). x.steps < 100000) (sym c.self.view_is) c.requires.few in
     let sent : c.send_all.new.sent.packets ≡ c.self.inside.sent.packets
-    ++ map reported_of c.in_ok-settled.settled.0.items =
+    ++ map sent_sync c.in_ok-settled.settled.0.items =
     c.send_all.ensures
-    ∙ ap (λ (ps : List SentPacket). ps ++ map reported_of c.in_ok-settled.settled.0.items)
+    ∙ ap (λ (ps : List SentPacket). ps ++ map sent_sync c.in_ok-settled.settled.0.items)
     (ap (λ x. x.packets) c.in_ok-reserve.ensures.ok) in
     let count : c.len-count.result ≡ length c.settle_members.new.members.items =
     omega (arith, c.len-count.ensures, c.settle_members.new.members.ok) in
     let fits =
     settle_fits s c.self.invariant.consistent few c.settle_members.new.members.items c.in_ok-settled.ensures.members
-    c.send_all.new.sent.packets c.in_ok-settled.settled.0.items sent c.in_ok-settled.ensures.reported
+    c.send_all.new.sent.packets c.in_ok-settled.settled.0.items sent c.in_ok-settled.ensures.syncs
     c.len-count.result c.saturating_sub.result c.in_ok-settled.settled.1 c.in_ok-settled.settled.2 count
     c.saturating_sub.ensures
     c.in_ok-settled.ensures.parts c.in_ok-settled.ensures.octets in
@@ -165,9 +166,9 @@ invariant_of-self-2 g c =
     let s = world_state c.self.inside in
     let few = subst (λ (x : GroupState). x.steps < 100000) (sym c.self.view_is) c.requires.few in
     let sent : c.send_all.new.sent.packets ≡ c.self.inside.sent.packets
-    ++ map reported_of c.in_ok-settled.settled.0.items =
+    ++ map sent_sync c.in_ok-settled.settled.0.items =
     c.send_all.ensures
-    ∙ ap (λ (ps : List SentPacket). ps ++ map reported_of c.in_ok-settled.settled.0.items)
+    ∙ ap (λ (ps : List SentPacket). ps ++ map sent_sync c.in_ok-settled.settled.0.items)
     (ap (λ x. x.packets) c.in_ok-reserve.ensures.ok) in
     let count : c.len-count.result ≡ length c.settle_members.new.members.items =
     omega (arith, c.len-count.ensures, c.settle_members.new.members.ok) in
@@ -175,7 +176,7 @@ invariant_of-self-2 g c =
       consistent =
           settle_state s c.self.invariant.consistent few c.settle_members.new.members.items
           c.in_ok-settled.ensures.members
-          c.send_all.new.sent.packets c.in_ok-settled.settled.0.items sent c.in_ok-settled.ensures.reported
+          c.send_all.new.sent.packets c.in_ok-settled.settled.0.items sent c.in_ok-settled.ensures.syncs
           c.len-count.result c.saturating_sub.result c.in_ok-settled.settled.1 c.in_ok-settled.settled.2 count
           c.saturating_sub.ensures
           c.in_ok-settled.ensures.parts c.in_ok-settled.ensures.octets
@@ -190,27 +191,27 @@ returns g c =
     let s = world_state c.self.inside in
     let few = subst (λ (x : GroupState). x.steps < 100000) (sym c.self.view_is) c.requires.few in
     let mid = c.settle_members.new.members.items in
-    let reported = c.in_ok-settled.settled.0.items in
-    let sent : c.send_all.new.sent.packets ≡ c.self.inside.sent.packets ++ map reported_of reported =
+    let syncs = c.in_ok-settled.settled.0.items in
+    let sent : c.send_all.new.sent.packets ≡ c.self.inside.sent.packets ++ map sent_sync syncs =
     c.send_all.ensures
-    ∙ ap (λ (ps : List SentPacket). ps ++ map reported_of reported) (ap (λ x. x.packets) c.in_ok-reserve.ensures.ok) in
+    ∙ ap (λ (ps : List SentPacket). ps ++ map sent_sync syncs) (ap (λ x. x.packets) c.in_ok-reserve.ensures.ok) in
     let count : c.len-count.result ≡ length mid =
     omega (arith, c.len-count.ensures, c.settle_members.new.members.ok) in
     record {
       world =
           settle_world s c.self.invariant.consistent few mid c.in_ok-settled.ensures.members
-          c.send_all.new.sent.packets reported
+          c.send_all.new.sent.packets syncs
           sent
-          c.in_ok-settled.ensures.reported c.len-count.result c.saturating_sub.result c.in_ok-settled.settled.1
+          c.in_ok-settled.ensures.syncs c.len-count.result c.saturating_sub.result c.in_ok-settled.settled.1
           c.in_ok-settled.settled.2 count
           c.saturating_sub.ensures c.in_ok-settled.ensures.parts c.in_ok-settled.ensures.octets
-          ∙ ap (λ (x : GroupState). after_gathering (keyed x.keys) (world_of x)) c.self.view_is;
-      parts = c.in_ok-settled.ensures.parts ∙ ap (λ (x : GroupState). settle_gains (world_of x)) c.self.view_is;
+          ∙ ap (λ (x : GroupState). after_gathering (lossless x.keys) (world_of x)) c.self.view_is;
+      parts = c.in_ok-settled.ensures.parts ∙ ap (λ (x : GroupState). settle_new_parts (world_of x)) c.self.view_is;
       joined =
           settle_joined s c.self.invariant.consistent few mid c.in_ok-settled.ensures.members
-          c.send_all.new.sent.packets reported
+          c.send_all.new.sent.packets syncs
           sent
-          c.in_ok-settled.ensures.reported c.len-count.result c.saturating_sub.result c.in_ok-settled.settled.1
+          c.in_ok-settled.ensures.syncs c.len-count.result c.saturating_sub.result c.in_ok-settled.settled.1
           c.in_ok-settled.settled.2 count
           c.saturating_sub.ensures c.in_ok-settled.ensures.parts c.in_ok-settled.ensures.octets;
       steps = ap (λ (x : GroupState). x.steps + 1) c.self.view_is;

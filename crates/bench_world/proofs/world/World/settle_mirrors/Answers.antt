@@ -1,6 +1,6 @@
 use Rattle.std.proofs.Common.{◌≡◌, ◌+◌, ◌<◌, ℕ, List, length, refl, sym, ap, ◌∙◌, subst}
 use Rattle.svs_vector.specs.Vectors.{join_all}
-use Rattle.group_model.specs.Laws.{NothingHidden}
+use Rattle.group_model.specs.Laws.{NothingDeleted}
 use Rattle.repo_member.specs.MemberState.{MemberState}
 use Rattle.bench_world.specs.MirrorSteps.{mirror_at}
 use Rattle.bench_world.specs.MirrorSettles.{HaveSettled, ListsItsJoin, ArePartlySettledMirrors, held_by_all}
@@ -30,8 +30,8 @@ returns-in_err-known-clause-err g c =
     where_err c.from_residual.result (λ i l.
     partly_same (world_of c.args.self.now) (mirror_at c.args.self.now.mirrors i))
 
-pub gather_for_all-requires : goal.gather_for_all-requires
-gather_for_all-requires g c =
+pub fetch_all_for_mirrors-requires : goal.fetch_all_for_mirrors-requires
+fetch_all_for_mirrors-requires g c =
     let s = world_state c.self.inside in (
       c.type_bounds.sync-R,
       can_gather s c.self.invariant.consistent c.as_slice-2.result.now c.as_slice-2.ensures.value
@@ -47,18 +47,19 @@ invariant_of-self g c =
     record {
       consistent =
           settled_mirrors s c.self.invariant.consistent (only_members c.as_slice-2.result.now)
-          c.gather_for_all.new.mirrors.items
-          c.gather_for_all.ensures.len
+          c.fetch_all_for_mirrors.new.mirrors.items
+          c.fetch_all_for_mirrors.ensures.len
           (all_consistently s c.self.invariant.consistent c.as_slice-2.result.now c.as_slice-2.ensures.value
-          c.gather_for_all.new.mirrors.items c.gather_for_all.ensures.consistent)
-          c.gather_for_all.ensures.partly;
+          c.fetch_all_for_mirrors.new.mirrors.items c.fetch_all_for_mirrors.ensures.consistent)
+          c.fetch_all_for_mirrors.ensures.partly;
       nobody_lacks =
           record {
             members = c.self.invariant.nobody_lacks.members;
             mirrors =
                 partly_mirrors_lack c.self.inside.unsettled.mirrors (in_groups s.members)
-                (only_members c.as_slice-2.result.now) s.mirrors c.gather_for_all.new.mirrors.items
-                c.gather_for_all.ensures.len c.gather_for_all.ensures.partly c.self.invariant.nobody_lacks.mirrors;
+                (only_members c.as_slice-2.result.now) s.mirrors c.fetch_all_for_mirrors.new.mirrors.items
+                c.fetch_all_for_mirrors.ensures.len c.fetch_all_for_mirrors.ensures.partly
+                c.self.invariant.nobody_lacks.mirrors;
           };
     }
 
@@ -68,21 +69,21 @@ invariant_of-self-2 g c =
     record {
       consistent =
           settled_mirrors s c.self.invariant.consistent (only_members c.as_slice-2.result.now)
-          c.gather_for_all.new.mirrors.items
-          c.gather_for_all.ensures.len
+          c.fetch_all_for_mirrors.new.mirrors.items
+          c.fetch_all_for_mirrors.ensures.len
           (all_consistently s c.self.invariant.consistent c.as_slice-2.result.now c.as_slice-2.ensures.value
-          c.gather_for_all.new.mirrors.items c.gather_for_all.ensures.consistent)
-          c.gather_for_all.ensures.partly;
+          c.fetch_all_for_mirrors.new.mirrors.items c.fetch_all_for_mirrors.ensures.consistent)
+          c.fetch_all_for_mirrors.ensures.partly;
       nobody_lacks =
           record {
             members = c.self.invariant.nobody_lacks.members;
             mirrors =
                 settled_mirrors_lack c.none.result (only_members s.members) (sound_only s c.self.invariant.consistent)
-                s.keys s.mirrors c.gather_for_all.new.mirrors.items c.gather_for_all.ensures.len
+                s.keys s.mirrors c.fetch_all_for_mirrors.new.mirrors.items c.fetch_all_for_mirrors.ensures.len
                 (all_consistently s c.self.invariant.consistent c.as_slice-2.result.now c.as_slice-2.ensures.value
-                c.gather_for_all.new.mirrors.items c.gather_for_all.ensures.consistent)
+                c.fetch_all_for_mirrors.new.mirrors.items c.fetch_all_for_mirrors.ensures.consistent)
                 (subst (λ (as_ : List MemberState). HaveSettled (only_members as_) s.mirrors
-                c.gather_for_all.new.mirrors.items) c.as_slice-2.ensures.value c.in_ok-parts.ensures.settled);
+                c.fetch_all_for_mirrors.new.mirrors.items) c.as_slice-2.ensures.value c.in_ok-parts.ensures.settled);
           };
     }
 
@@ -91,38 +92,39 @@ returns-in_err-parts-clause-err g c =
     let s = world_state c.self.inside in
     where_err c.from_residual-in_err-parts.result
     (subst (λ (x : GroupState).
-    ArePartlySettledMirrors (world_of x) x.mirrors c.gather_for_all.new.mirrors.items) c.self.view_is
+    ArePartlySettledMirrors (world_of x) x.mirrors c.fetch_all_for_mirrors.new.mirrors.items) c.self.view_is
     (are_partly s c.self.invariant.consistent c.as_slice-2.result.now c.as_slice-2.ensures.value
-    c.gather_for_all.new.mirrors.items c.gather_for_all.ensures.partly))
+    c.fetch_all_for_mirrors.new.mirrors.items c.fetch_all_for_mirrors.ensures.partly))
 
 pub returns-clause-same : goal.returns-clause-same
 returns-clause-same g c =
-    ap (λ (x : GroupState). let y : GroupState = record x { mirrors = c.gather_for_all.new.mirrors.items } in y)
+    ap (λ (x : GroupState). let y : GroupState = record x { mirrors = c.fetch_all_for_mirrors.new.mirrors.items } in y)
     c.self.view_is
 
 pub returns-clause-len : goal.returns-clause-len
-returns-clause-len g c = c.gather_for_all.ensures.len ∙ ap (λ (x : GroupState). length x.mirrors) c.self.view_is
+returns-clause-len g c = c.fetch_all_for_mirrors.ensures.len ∙ ap (λ (x : GroupState). length x.mirrors) c.self.view_is
 
 pub returns-clause-settled : goal.returns-clause-settled
 returns-clause-settled g c =
     let s = world_state c.self.inside in
-    subst (λ (x : GroupState). HaveSettled (world_of x) x.mirrors c.gather_for_all.new.mirrors.items)
+    subst (λ (x : GroupState). HaveSettled (world_of x) x.mirrors c.fetch_all_for_mirrors.new.mirrors.items)
     c.self.view_is
     (are_settled s c.self.invariant.consistent c.as_slice-2.result.now c.as_slice-2.ensures.value
-    c.gather_for_all.new.mirrors.items c.in_ok-parts.ensures.settled)
+    c.fetch_all_for_mirrors.new.mirrors.items c.in_ok-parts.ensures.settled)
 
 pub returns-clause-parts : goal.returns-clause-parts
 returns-clause-parts g c =
     subst (λ (x : GroupState).
-    c.in_ok-parts.parts + held_by_all x.mirrors ≡ held_by_all c.gather_for_all.new.mirrors.items) c.self.view_is
+    c.in_ok-parts.parts + held_by_all x.mirrors ≡ held_by_all c.fetch_all_for_mirrors.new.mirrors.items) c.self.view_is
     c.in_ok-parts.ensures.parts
 
 pub returns-clause-joined : goal.returns-clause-joined
 returns-clause-joined g c =
     let s = world_state c.self.inside in
-    subst (λ (x : GroupState). NothingHidden (world_of x) → (i : ℕ)
-    → i < length c.gather_for_all.new.mirrors.items
-    → ListsItsJoin (world_of x) (mirror_at c.gather_for_all.new.mirrors.items i)) c.self.view_is
+    subst (λ (x : GroupState). NothingDeleted (world_of x) → (i : ℕ)
+    → i < length c.fetch_all_for_mirrors.new.mirrors.items
+    → ListsItsJoin (world_of x) (mirror_at c.fetch_all_for_mirrors.new.mirrors.items i)) c.self.view_is
     (all_list s c.self.invariant.consistent c.as_slice-2.result.now c.as_slice-2.ensures.value
-    c.gather_for_all.new.mirrors.items c.gather_for_all.ensures.len c.gather_for_all.ensures.consistent
+    c.fetch_all_for_mirrors.new.mirrors.items c.fetch_all_for_mirrors.ensures.len
+    c.fetch_all_for_mirrors.ensures.consistent
     c.in_ok-parts.ensures.settled)

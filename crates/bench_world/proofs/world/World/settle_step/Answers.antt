@@ -2,9 +2,9 @@ use Rattle.std.proofs.Common.{◌≡◌, ◌<◌, ◌+◌, length, refl, sym, ap
 use Rattle.std.proofs.lemmas.List.{length-map}
 use Rattle.group_model.specs.Steps.{after_gathering, after_settle}
 use Rattle.repo_member.specs.MemberState.{MemberState}
-use Rattle.bench_world.specs.Serving.{environment, keyed}
+use Rattle.bench_world.specs.Serving.{environment, lossless}
 use Rattle.repo_member.specs.InGroup.{in_group}
-use Rattle.bench_world.specs.EventValues.{Reported}
+use Rattle.bench_world.specs.EventValues.{ReportValue}
 use Rattle.bench_world.specs.Worlds.{GroupState, in_groups, world_of}
 use Rattle.bench_world.specs.Kept.{world_state}
 use Rattle.bench_world.proofs.Resets.{all_few, reset_world, reset_joined, reset_state}
@@ -21,7 +21,7 @@ invariant_of-self g c =
     let mid =
     ap world_of c.self-2.view_is
     ∙ c.in-Ok.ensures.world
-    ∙ ap (λ (x : GroupState). after_gathering (keyed x.keys) (world_of x)) (sym c.self.view_is) in
+    ∙ ap (λ (x : GroupState). after_gathering (lossless x.keys) (world_of x)) (sym c.self.view_is) in
     let steps =
     ap (λ (x : GroupState). x.steps) c.self-2.view_is
     ∙ c.settle.ensures.steps
@@ -47,7 +47,7 @@ returns g c =
     let mid =
     ap world_of c.self-2.view_is
     ∙ c.in-Ok.ensures.world
-    ∙ ap (λ (x : GroupState). after_gathering (keyed x.keys) (world_of x)) (sym c.self.view_is) in
+    ∙ ap (λ (x : GroupState). after_gathering (lossless x.keys) (world_of x)) (sym c.self.view_is) in
     let steps =
     ap (λ (x : GroupState). x.steps) c.self-2.view_is
     ∙ c.settle.ensures.steps
@@ -68,7 +68,7 @@ returns g c =
           after_settle (environment x.keys (g.D.Draws.draw c.args.draws.now) (g.N.Net.passes c.args.net.now))
           (world_of x))
           c.self.view_is;
-      reported = λ i. Reported.Settle (syncs i) (c.in-Ok.ensures.parts i);
+      report = λ i. ReportValue.Settle (syncs i) (c.in-Ok.ensures.parts i);
       joined =
           reset_joined s c.self.invariant.consistent few (g.D.Draws.draw c.args.draws.now)
           (g.N.Net.passes c.args.net.now)

@@ -4,7 +4,7 @@ use Rattle.sorted_lists.specs.Range.{numbers_from}
 use Rattle.repo_member.specs.MemberState.{MemberState}
 use Rattle.repo_member.specs.InGroup.{in_group}
 use Rattle.group_model.specs.Steps.{all_totals}
-use Rattle.bench_world.specs.EventValues.{Reported}
+use Rattle.bench_world.specs.EventValues.{ReportValue}
 use Rattle.bench_world.specs.MemberTotals.{totals_in, HasFewTotals}
 use Rattle.bench_world.specs.Worlds.{GroupState, state_at, world_of}
 use Rattle.bench_world.specs.Kept.{world_state}
@@ -38,9 +38,9 @@ returns c =
     record {
       taken = refl;
       world = c.count.ensures.world;
-      reported =
-          (λ i. Reported.Summary (numbers i) (entries i) (segments i) (octets i))
-          ∙ ap (λ (x : GroupState). Reported.Summary (numbers_from 0 (length (world_of x).members))
+      report =
+          (λ i. ReportValue.Summary (numbers i) (entries i) (segments i) (octets i))
+          ∙ ap (λ (x : GroupState). ReportValue.Summary (numbers_from 0 (length (world_of x).members))
           (map (λ t. t.entries) (all_totals (world_of x))) (map (λ t. t.segments) (all_totals (world_of x)))
           (map (λ t. t.octets) (all_totals (world_of x)))) c.self.view_is;
       joined = tt;

@@ -4,7 +4,7 @@ use Rattle.group_model.specs.Events.{Event}
 use Rattle.group_model.specs.World.{sent_at}
 use Rattle.group_model.specs.Refusals.{unless_sent}
 use Rattle.repo_member.specs.Verdicts.{sync_of}
-use Rattle.bench_world.specs.EventValues.{Reported}
+use Rattle.bench_world.specs.EventValues.{ReportValue}
 use Rattle.bench_world.specs.Worlds.{GroupState, world_of, drawing}
 use Rattle.bench_world.specs.Kept.{world_state}
 use Rattle.bench_world.proofs.States.{stepped}
@@ -33,13 +33,13 @@ returns c =
           subst (λ (x : GroupState). unless_sent (world_of x) c.args.k ≡ None) c.self.view_is
           (not_refused s c.args.k at.first at.last);
       world = search rules;
-      reported =
-          ap (λ k. Reported.Sync k c.in_ok-octets.octets.items) c.from.ensures
-          ∙ ap (Reported.Sync c.args.k)
+      report =
+          ap (λ k. ReportValue.Sync k c.in_ok-octets.octets.items) c.from.ensures
+          ∙ ap (ReportValue.Sync c.args.k)
           (c.in_ok-octets.ensures.items_if_clones_equal (λ x y e. e) ∙ at.same
           ∙ octets_are s c.self.invariant.consistent c.args.k at.first at.last)
           ∙ ap (λ (x : GroupState).
-          Reported.Sync c.args.k (sync_of x.keys (sent_at (world_of x) c.args.k).sender
+          ReportValue.Sync c.args.k (sync_of x.keys (sent_at (world_of x) c.args.k).sender
           (sent_at (world_of x) c.args.k).vector))
           c.self.view_is;
       joined = tt;

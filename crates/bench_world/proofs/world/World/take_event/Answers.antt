@@ -12,13 +12,13 @@ use Rattle.bench_world.proofs.world.World.take_event.Goals as goal
 
 pub order_names_for-requires : goal.order_names_for-requires
 order_names_for-requires g c =
-    subst (λ n. IsReady n (event_value c.args.event.now)) (sym c.is_sound.ensures.names) c.requires.ready
+    subst (λ n. IsReady n (event_value c.args.event.now)) (sym c.cite_soundness.ensures.names) c.requires.ready
 
 pub carry_out-requires-clause-ready : goal.carry_out-requires-clause-ready
 carry_out-requires-clause-ready g c κs within =
     subst (λ (s : GroupState). IsReady (length s.members) (event_value c.args.event.now))
     (sym c.order_names_for.ensures)
-    (subst (λ n. IsReady n (event_value c.args.event.now)) (sym c.is_sound.ensures.names) c.requires.ready)
+    (subst (λ n. IsReady n (event_value c.args.event.now)) (sym c.cite_soundness.ensures.names) c.requires.ready)
 
 pub returns : goal.returns
 returns g c =
@@ -29,15 +29,15 @@ returns g c =
     c.carry_out.result c.carry_out.new.self) c.order_names_for.ensures c.carry_out.ensures in
     let old = c.args.self.now in
     let n = length old.keys.members.names in
-    let out = environment old.keys (g.D.Draws.draw c.args.draws.now) (g.N.Net.passes c.args.net.now) in
-    let many = length-map old.members in_group ∙ c.is_sound.ensures.names in
+    let env = environment old.keys (g.D.Draws.draw c.args.draws.now) (g.N.Net.passes c.args.net.now) in
+    let many = length-map old.members in_group ∙ c.cite_soundness.ensures.names in
     record {
       taken = made.taken;
       world = made.world;
-      reported = made.reported;
+      report = made.report;
       all =
-          all_named n (event_report old.keys out (world_of old) event) c.carry_out.result made.reported
-          (names_all n old.keys out (world_of old) refl many c.is_sound.ensures.sound event c.requires.ready);
+          all_named n (event_report old.keys env (world_of old) event) c.carry_out.result made.report
+          (names_all n old.keys env (world_of old) refl many c.cite_soundness.ensures.sound event c.requires.ready);
       joined = made.joined;
       steps = made.steps;
       keys = made.keys;

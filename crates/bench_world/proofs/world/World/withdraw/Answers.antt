@@ -8,7 +8,7 @@ use Rattle.group_model.specs.Events.{Event}
 use Rattle.group_model.specs.Refusals.{refusal}
 use Rattle.group_model.specs.World.{World}
 use Rattle.group_model.specs.Steps.{after_event, next_seq_at, next_sync}
-use Rattle.bench_world.specs.EventValues.{Reported}
+use Rattle.bench_world.specs.EventValues.{ReportValue}
 use Rattle.bench_world.specs.Steps.{IsFaultOf}
 use Rattle.bench_world.specs.Worlds.{GroupState, IsConsistentState, in_groups, sync_in, world_of, drawing}
 use Rattle.bench_world.specs.Kept.{world_state}
@@ -39,7 +39,7 @@ returns-in-Err g c =
     record {
       taken = tt;
       world = tt;
-      reported = tt;
+      report = tt;
       joined = tt;
       steps = tt;
       keys = search rules;
@@ -133,7 +133,7 @@ returns g c =
           c.add_reserved-sync.new.self.packets sent
           ∙ ap (λ (x : GroupState). after_event (drawing (g.D.Draws.draw c.args.draws.now)) (world_of x) event)
           c.self.view_is;
-      reported = λ i. Reported.Withdraw c.args.m (seq i) (c.from-2.ensures i) (sync i);
+      report = λ i. ReportValue.Withdraw c.args.m (seq i) (c.from-2.ensures i) (sync i);
       joined = tt;
       steps = ap (λ (x : GroupState). x.steps + 1) c.self.view_is;
       keys = ap (λ (x : GroupState). x.keys) c.self.view_is;

@@ -13,4 +13,4 @@ make_command-requires-clause-key_name c =
     subst (λ (n : List Component). length (encoding n) ≤ 205) (sym c.in_ok-key_name.ensures)
     (key_name-size c.name.result.now
     (subst (λ (n : List Component). length (encoding n) ≤ 200) named
-    (client_plain c.args.g.now c.is_sound.ensures.clients client c.requires.client).short))
+    (client_plain c.args.g.now c.cite_soundness.ensures.clients client c.requires.client).short))

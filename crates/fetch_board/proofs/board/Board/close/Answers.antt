@@ -23,9 +23,9 @@ settle-outcome-requires-clause-words g c = λ i n near word ne.
     (c.requires.passed i) in
     let h = there (slots_items closed.result.slots) i
     (omega (arith, closed.ensures.counts.1, closed.result.slots.ok.0, laid.room)) in
-    ⊎_elim (λ e. absurd (ne e.0)) (λ e. subst (λ k. n / 4 < k) (sym laid.reported) e.1)
+    ⊎_elim (λ e. absurd (ne e.0)) (λ e. subst (λ k. n / 4 < k) (sym laid.tries_known) e.1)
     (closes _ _ _ v _ _ c.seat.inside.inner.table_id closed.ensures.values.2
-    (same ∙ laid.reported) every rests.0 c.seat.invariant.places rests.1 i n h.0 (passed low) word h.1)
+    (same ∙ laid.tries_known) every rests.0 c.seat.invariant.places rests.1 i n h.0 (passed low) word h.1)
 
 pub returns-clause-settled : goal.returns-clause-settled
 returns-clause-settled g c = λ i low.
@@ -41,10 +41,10 @@ returns-clause-settled g c = λ i low.
     let passed = at_fields c.seat.view_is c.self.view_is (λ b v. 0 < items i v.passed) (c.requires.passed i low) in
     let below = at_fields c.seat.view_is c.self.view_is (λ b v. i < b.items) low in
     let fin = subst (λ t. Final (Seen (Kept t seats) seat.id seat.me.0) ws xs)
-    (sym laid.reported) closed.ensures.values.2 in
+    (sym laid.tries_known) closed.ensures.values.2 in
     let near : i < length c.in_ok-values.values.items = omega (arith, below, c.in_ok-values.ensures) in
-    let reported = c.settle-outcome.ensures in
+    let tries_known = c.settle-outcome.ensures in
     let outcome = c.settle-outcome.result in
     subst (λ v. Settled v i (get_or outcome.values.items i None) (get_or outcome.attempts.items i 0)) c.seat.view_is
     (closes_at _ _ _ seat.me.0 ws xs seat.table_id fin same every rests.0 c.seat.invariant.places rests.1 i passed _
-    (reported.values i near) _ (reported.attempts i near))
+    (tries_known.values i near) _ (tries_known.attempts i near))

@@ -30,5 +30,5 @@ store-requires g c =
       returns_at _ _ _ _ _ a _ _ (omega (arith, word)) (omega (arith, laid.room, near))
           (subst (λ m. 0 < m.0.shares) (sym same) c.seat.invariant.some_share)
           (subst (λ m. 0 < pairs c.args.item a m.0.held) (sym same) holds)
-          (subst (λ n. a + 1 < n) laid.reported low),
+          (subst (λ n. a + 1 < n) laid.tries_known low),
     )

@@ -14,5 +14,5 @@ store-requires g c =
       (at_fields c.seat.view_is c.self.view_is IsSeatOf c.requires.seat).0,
       omega (arith, laid.even, laid.room, near),
       spends_kept _ _ _ _ _ a _ (omega (arith, laid.room, near)) c.seat.invariant.some_share holds
-          (last ∙ laid.reported),
+          (last ∙ laid.tries_known),
     )

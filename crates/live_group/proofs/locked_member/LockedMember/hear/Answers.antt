@@ -11,6 +11,6 @@ invariant_of-self g c =
       kept =
           other_call g.L.Lists.meaning g.L.Run.turns locked_member.live c.hear.new.self locked_member.first
           locked_member.second locked_member.look
-          locked_member.spent.amount locked_member.kept (event.Hear c.args.reported.now) refl refl c.hear.result
+          locked_member.spent.amount locked_member.kept (event.Hear c.args.told.now) refl refl c.hear.result
           c.hear.ensures;
     }

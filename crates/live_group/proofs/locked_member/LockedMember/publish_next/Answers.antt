@@ -9,7 +9,7 @@ invariant_of-self-in-Told-1 g c =
       kept =
           next_published g.L.Lists.meaning g.L.Run.turns locked_member.live c.publish_next.new.self locked_member.first
           locked_member.second
-          locked_member.look locked_member.spent.amount locked_member.kept c.in-Told.reported
-          (rw c.in-Told.is at c.in_ok-reported.ensures)
+          locked_member.look locked_member.spent.amount locked_member.kept c.in-Told.told
+          (rw c.in-Told.is at c.in_ok-told.ensures)
           c.if-self-eq0.false;
     }

@@ -13,7 +13,7 @@ accepted-requires-clause-passes g c is =
     let lent : IsLoan t (loan c.part-part.result c.octets.result.now) =
     subst (IsLoan t) (λ i. loan (sym c.part-part.ensures.part i) (sym c.octets.ensures i)) c.part-part.ensures.lent in
     ap (λ (k : GroupKeys). accept_verdict k a c.args.f c.octets.result.now) c.requires.group
-    ∙ passes t g.row.M a c.self.inside.journal.items c.self.inside.coming.items c.args.f c.part-part.result
+    ∙ passes t g.row.M a c.self.inside.journal.items c.self.inside.unpublished.items c.args.f c.part-part.result
     c.octets.result.now c.self.invariant.live lent.packet is
 
 pub invariant_of-self-2 : goal.invariant_of-self-2
@@ -21,7 +21,7 @@ invariant_of-self-2 g c =
     let t = g.L.Lists.meaning in
     let a = c.self.inside.member in
     let journal = c.self.inside.journal.items in
-    let coming = c.self.inside.coming.items in
+    let unpublished = c.self.inside.unpublished.items in
     let live = c.self.invariant.live in
     let part = c.part-part.result in
     let octets = c.octets.result.now in
@@ -33,16 +33,18 @@ invariant_of-self-2 g c =
       c.in_ok-reply.ensures.ok,
       c.in_ok-reply.ensures.reply,
     )
-    (kept_on t g.row.M a _ journal coming _ _ (omega (arith, c.if-len.false, c.len.ensures))
-    (accept_after t g.row.M a journal coming c.args.f part octets live lent.packet) lent.published c.self.inside.number
-    c.self.inside.draw c.self.invariant (accept_quiet t g.row.M a journal coming c.args.f part octets live lent.packet))
+    (kept_on t g.row.M a _ journal unpublished _ _ (omega (arith, c.if-len.false, c.len.ensures))
+    (accept_after t g.row.M a journal unpublished c.args.f part octets live lent.packet) lent.published
+    c.self.inside.number
+    c.self.inside.draw c.self.invariant
+    (accept_quiet t g.row.M a journal unpublished c.args.f part octets live lent.packet))
 
 pub returns : goal.returns
 returns g c =
     let t = g.L.Lists.meaning in
     let a = c.self.inside.member in
     let journal = c.self.inside.journal.items in
-    let coming = c.self.inside.coming.items in
+    let unpublished = c.self.inside.unpublished.items in
     let live = c.self.invariant.live in
     let part = c.part-part.result in
     let octets = c.octets.result.now in
@@ -56,6 +58,8 @@ returns g c =
       c.in_ok-reply.ensures.ok,
       c.in_ok-reply.ensures.reply,
     )
-    (steps_on t g.row.M a _ journal coming _ _ (omega (arith, c.if-len.false, c.len.ensures))
-    (accept_after t g.row.M a journal coming c.args.f part octets live lent.packet) lent.published c.self.inside.number
-    c.self.inside.draw c.self.invariant (accept_quiet t g.row.M a journal coming c.args.f part octets live lent.packet))
+    (steps_on t g.row.M a _ journal unpublished _ _ (omega (arith, c.if-len.false, c.len.ensures))
+    (accept_after t g.row.M a journal unpublished c.args.f part octets live lent.packet) lent.published
+    c.self.inside.number
+    c.self.inside.draw c.self.invariant
+    (accept_quiet t g.row.M a journal unpublished c.args.f part octets live lent.packet))

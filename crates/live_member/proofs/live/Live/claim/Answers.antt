@@ -14,7 +14,7 @@ invariant_of-self-2 g c =
       c.claimed-reply.ensures.new,
       c.claimed-reply.ensures.reply,
     )
-    (kept_on t g.row.M a _ c.self.inside.journal.items c.self.inside.coming.items _ _
+    (kept_on t g.row.M a _ c.self.inside.journal.items c.self.inside.unpublished.items _ _
     (omega (arith, c.if-len.false, c.len.ensures)) (claim_after t a c.args.f live.logs live.consistent _ refl) tt
     c.self.inside.number c.self.inside.draw c.self.invariant
     (claim_quiet t a c.args.f live.logs live.consistent _ refl))
@@ -31,7 +31,7 @@ returns g c =
       c.claimed-reply.ensures.new,
       c.claimed-reply.ensures.reply,
     )
-    (steps_on t g.row.M a _ c.self.inside.journal.items c.self.inside.coming.items _ _
+    (steps_on t g.row.M a _ c.self.inside.journal.items c.self.inside.unpublished.items _ _
     (omega (arith, c.if-len.false, c.len.ensures)) (claim_after t a c.args.f live.logs live.consistent _ refl) tt
     c.self.inside.number c.self.inside.draw c.self.invariant
     (claim_quiet t a c.args.f live.logs live.consistent _ refl))

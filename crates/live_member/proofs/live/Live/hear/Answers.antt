@@ -9,7 +9,7 @@ invariant_of-self-2 g c =
     let t = g.L.Lists.meaning in
     let a = c.self.inside.member in
     let journal = c.self.inside.journal.items in
-    let coming = c.self.inside.coming.items in
+    let unpublished = c.self.inside.unpublished.items in
     let kept = c.self.invariant in
     let value : c.self.inside.draw ≡ slice_index t.draws a.number =
     kept.its_draw ∙ ap (slice_index t.draws) kept.its_number in
@@ -22,11 +22,11 @@ invariant_of-self-2 g c =
       c.octets.ensures.same,
       c.requires,
     )
-    (kept_on t g.row.M a _ journal coming _ _ (omega (arith, c.if-len.false, c.len.ensures))
-    (hear_after t g.row.M a journal coming c.args.reported.now c.self.inside.draw kept.live c.octets.ensures.reported
+    (kept_on t g.row.M a _ journal unpublished _ _ (omega (arith, c.if-len.false, c.len.ensures))
+    (hear_after t g.row.M a journal unpublished c.args.told.now c.self.inside.draw kept.live c.octets.ensures.told
     value)
     tt c.self.inside.number c.self.inside.draw kept
-    (hear_quiet t g.row.M a journal coming c.args.reported.now c.self.inside.draw kept.live c.octets.ensures.reported
+    (hear_quiet t g.row.M a journal unpublished c.args.told.now c.self.inside.draw kept.live c.octets.ensures.told
     value))
 
 pub returns : goal.returns
@@ -34,7 +34,7 @@ returns g c =
     let t = g.L.Lists.meaning in
     let a = c.self.inside.member in
     let journal = c.self.inside.journal.items in
-    let coming = c.self.inside.coming.items in
+    let unpublished = c.self.inside.unpublished.items in
     let kept = c.self.invariant in
     let value : c.self.inside.draw ≡ slice_index t.draws a.number =
     kept.its_draw ∙ ap (slice_index t.draws) kept.its_number in
@@ -48,9 +48,9 @@ returns g c =
       c.octets.ensures.same,
       c.requires,
     )
-    (steps_on t g.row.M a _ journal coming _ _ (omega (arith, c.if-len.false, c.len.ensures))
-    (hear_after t g.row.M a journal coming c.args.reported.now c.self.inside.draw kept.live c.octets.ensures.reported
+    (steps_on t g.row.M a _ journal unpublished _ _ (omega (arith, c.if-len.false, c.len.ensures))
+    (hear_after t g.row.M a journal unpublished c.args.told.now c.self.inside.draw kept.live c.octets.ensures.told
     value)
     tt c.self.inside.number c.self.inside.draw kept
-    (hear_quiet t g.row.M a journal coming c.args.reported.now c.self.inside.draw kept.live c.octets.ensures.reported
+    (hear_quiet t g.row.M a journal unpublished c.args.told.now c.self.inside.draw kept.live c.octets.ensures.told
     value))

@@ -12,7 +12,7 @@ returns-in_default-clause-own g c =
     let a = c.self.inside.member in
     let kept = c.self.invariant in
     c.in_default.ensures
-    ∙ own_stored t g.row.M a c.self.inside.journal.items c.self.inside.coming.items kept.live c.args.part
+    ∙ own_stored t g.row.M a c.self.inside.journal.items c.self.inside.unpublished.items kept.live c.args.part
     (c.if-part-self.false ∙ kept.its_number)
     ∙ ap (λ (l : Living). logged t.group l.state c.args.part) c.self.view_is
 
@@ -23,7 +23,7 @@ new-requires g c =
     let stored : value_of part_cmp a.store c.args.part ≡ Some c.in_ok-octets.octets.items =
     sym c.in-Some.ensures
     ∙ ap (λ (octets : List ℕ). Some octets) (sym (c.in_ok-octets.ensures.items_if_clones_equal (λ x y e. e))) in
-    lends t g.row.M a c.self.inside.journal.items c.self.inside.coming.items c.self.invariant.live c.args.part
+    lends t g.row.M a c.self.inside.journal.items c.self.inside.unpublished.items c.self.invariant.live c.args.part
     c.in_ok-octets.octets.items stored
 
 pub returns-clause-own : goal.returns-clause-own
@@ -36,6 +36,6 @@ returns-clause-own g c =
     ∙ ap (λ (octets : List ℕ). Some octets) (sym (c.in_ok-octets.ensures.items_if_clones_equal (λ x y e. e))) in
     ap (λ (octets : List ℕ). Some octets) (ap (λ l. l.octets) c.new.ensures)
     ∙ sym stored
-    ∙ own_stored t g.row.M a c.self.inside.journal.items c.self.inside.coming.items kept.live c.args.part
+    ∙ own_stored t g.row.M a c.self.inside.journal.items c.self.inside.unpublished.items kept.live c.args.part
     (c.if-part-self.false ∙ kept.its_number)
     ∙ ap (λ (l : Living). logged t.group l.state c.args.part) c.self.view_is

@@ -14,7 +14,7 @@ invariant_of-self-2 g c =
       c.lost-reply.ensures.new,
       c.lost-reply.ensures.reply,
     )
-    (kept_on t g.row.M a _ c.self.inside.journal.items c.self.inside.coming.items _ _
+    (kept_on t g.row.M a _ c.self.inside.journal.items c.self.inside.unpublished.items _ _
     (omega (arith, c.if-len.false, c.len.ensures)) (lose_after t a c.args.f live.logs live.consistent _ refl) tt
     c.self.inside.number c.self.inside.draw c.self.invariant (lose_quiet t a c.args.f live.logs live.consistent _))
 
@@ -30,6 +30,6 @@ returns g c =
       c.lost-reply.ensures.new,
       c.lost-reply.ensures.reply,
     )
-    (steps_on t g.row.M a _ c.self.inside.journal.items c.self.inside.coming.items _ _
+    (steps_on t g.row.M a _ c.self.inside.journal.items c.self.inside.unpublished.items _ _
     (omega (arith, c.if-len.false, c.len.ensures)) (lose_after t a c.args.f live.logs live.consistent _ refl) tt
     c.self.inside.number c.self.inside.draw c.self.invariant (lose_quiet t a c.args.f live.logs live.consistent _))

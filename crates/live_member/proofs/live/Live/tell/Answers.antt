@@ -11,4 +11,4 @@ new-requires g c =
     let a = c.self.inside.member in
     subst (IsReport t)
     (sym (c.in_ok-octets.ensures ∙ ap (λ (k : GroupKeys). sync_of k a.number a.known) c.requires))
-    (tells t g.row.M a c.self.inside.journal.items c.self.inside.coming.items c.self.invariant.live)
+    (tells t g.row.M a c.self.inside.journal.items c.self.inside.unpublished.items c.self.invariant.live)

@@ -1,7 +1,7 @@
 use Rattle.std.proofs.Common.{◌≡◌, Ok, refl, ap, subst}
 use Rattle.script_lang.specs.Checking.{after_line}
 use Rattle.script_lang.specs.Forms.{Stated, stated}
-use Rattle.live_script.specs.Judging.{Reached, may_stand}
+use Rattle.live_script.specs.Evaluation.{Reached, may_stand}
 use Rattle.live_script.proofs.Declaring.{group_declares, group_kept, group_named, group_taken}
 use Rattle.live_script.proofs.Taking.{stopped_by}
 use Rattle.live_script.proofs.script.Script.declare_group.Goals as goal
@@ -13,7 +13,7 @@ returns-in_err-check-clause-stopped c =
 
 pub new-requires : goal.new-requires
 new-requires c =
-    group_named (stated c.args.line.now) c.args.name.now c.requires.line c.requires.is c.is_sound.ensures.name
+    group_named (stated c.args.line.now) c.args.name.now c.requires.line c.requires.is c.cite_soundness.ensures.name
 
 pub invariant_of-self : goal.invariant_of-self
 invariant_of-self c =

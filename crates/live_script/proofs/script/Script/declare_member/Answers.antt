@@ -5,7 +5,7 @@ use Rattle.std.proofs.lemmas.List.{length-map}
 use Rattle.script_lang.specs.Checking.{after_line, party_node}
 use Rattle.script_lang.specs.Forms.{Stated, stated}
 use Rattle.repo_member.specs.Groups.{GroupKeys}
-use Rattle.live_script.specs.Judging.{Reached, may_stand, with_member_too}
+use Rattle.live_script.specs.Evaluation.{Reached, may_stand, with_member_too}
 use Rattle.live_script.specs.Scripts.{IsKept, group_keys, totals_view}
 use Rattle.live_script.proofs.Declaring.{is_free, member_declares, member_kept, member_named, member_taken}
 use Rattle.live_script.proofs.Declaring.{member_ungrouped}
@@ -28,12 +28,12 @@ returns-in_default-clause-stopped c =
 pub add_member-requires-clause-node : goal.add_member-requires-clause-node
 add_member-requires-clause-node c =
     (member_named (stated c.args.line.now) c.args.label.now c.args.node.now c.args.key.now c.requires.line c.requires.is
-    c.is_sound.ensures.name).0
+    c.cite_soundness.ensures.name).0
 
 pub add_member-requires-clause-key : goal.add_member-requires-clause-key
 add_member-requires-clause-key c =
     (member_named (stated c.args.line.now) c.args.label.now c.args.node.now c.args.key.now c.requires.line c.requires.is
-    c.is_sound.ensures.name).1
+    c.cite_soundness.ensures.name).1
 
 pub add_member-requires-clause-apart : goal.add_member-requires-clause-apart
 add_member-requires-clause-apart c =

@@ -18,4 +18,4 @@ returns-clause-some c =
     gives _ c.self.inside.draft.group _ _ c.args.self m.group m.labels m.lists c.self.view_is
     (ap (λ (ls : Vec (String Global) Global). map string_bytes ls.items) same.1) refl
     (ap (λ (ls : Vec (Vec Object Global) Global). map (λ l. l.items) ls.items) same.2) same.0 c.self.invariant
-    c.is_sound.ensures
+    c.cite_soundness.ensures

@@ -6,7 +6,7 @@ use Rattle.script_lang.specs.Checking.{after_line}
 use Rattle.script_lang.specs.Forms.{Stated, stated}
 use Rattle.repo_object.specs.Objects.{NamedContents, IsObject}
 use Rattle.repo_object.specs.Cuts.{pieces}
-use Rattle.live_script.specs.Judging.{Reached, cut_object, is_few, may_stand, member_number, with_object}
+use Rattle.live_script.specs.Evaluation.{Reached, cut_object, is_few, may_stand, member_number, with_object}
 use Rattle.live_script.specs.Scripts.{TotalsView, are_few, totals_view, with_one_more}
 use Rattle.live_script.proofs.Declaring.{publication}
 use Rattle.live_script.proofs.Publishing.{inside, is_few_as, known_in, none_is_some, place_of_known, publish_declares}

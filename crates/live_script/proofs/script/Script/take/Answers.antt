@@ -2,10 +2,10 @@ use Rattle.std.proofs.Common.{◌∙◌, Ok, Option, sym, ap, subst}
 use Rattle.std.specs.Option.{option_map}
 use Rattle.script_lang.specs.declared.line.Line.{Line}
 use Rattle.script_lang.specs.Forms.{stated}
-use Rattle.live_script.specs.Judging.{Verdict, judged}
+use Rattle.live_script.specs.Evaluation.{Verdict, evaluated}
 use Rattle.live_script.specs.LineErrors.{IsLineError, line_fault_error}
 use Rattle.script_lang.proofs.Stops.{stops_so}
-use Rattle.live_script.proofs.Taking.{judged_fault, judged_nothing, judged_stated, no_room, room_kept}
+use Rattle.live_script.proofs.Taking.{evaluated_fault, judged_nothing, judged_stated, no_room, room_kept}
 use Rattle.live_script.proofs.script.Script.take.Goals as goal
 
 pub returns-then-not-has_room-clause-stopped : goal.returns-then-not-has_room-clause-stopped
@@ -14,10 +14,10 @@ returns-then-not-has_room-clause-stopped c =
 
 pub returns-in_err-stated-clause-stopped : goal.returns-in_err-stated-clause-stopped
 returns-in_err-stated-clause-stopped c =
-    stops_so c.from_residual.result (IsLineError (judged c.args.self c.args.line.now))
+    stops_so c.from_residual.result (IsLineError (evaluated c.args.self c.args.line.now))
     (line_fault_error c.in_err-stated.field-0.0)
     c.from_residual.ensures.1
-    (judged_fault c.args.self c.args.line.now c.in_err-stated.field-0.0
+    (evaluated_fault c.args.self c.args.line.now c.in_err-stated.field-0.0
     (sym c.has_room.ensures ∙ c.if-not-has_room.false) c.in_err-stated.ensures)
 
 pub take_stated-requires : goal.take_stated-requires
@@ -32,7 +32,7 @@ returns-in_err-take_stated-in-Some-clause-stopped c =
     let read = c.in_ok-stated.ensures ∙ ap (λ (o : Option Line). Ok (option_map stated o)) c.in-Some.is in
     let same = judged_stated c.args.self c.args.line.now (stated c.in-Some.stated)
     (sym c.has_room.ensures ∙ c.if-not-has_room.false) read in
-    stops_so c.from_residual-in_err-take_stated-in-Some.result (IsLineError (judged c.args.self c.args.line.now)) why
+    stops_so c.from_residual-in_err-take_stated-in-Some.result (IsLineError (evaluated c.args.self c.args.line.now)) why
     c.from_residual-in_err-take_stated-in-Some.ensures.1
     (subst (λ (v : Verdict). IsLineError v why) (sym same)
     (c.in_err-take_stated-in-Some.ensures.stopped c.args.line.now))

@@ -13,7 +13,7 @@ use Rattle.repo_object.specs.Packets.{packet_content}
 use Rattle.repo_object.specs.Verdict.{CheckedPart}
 use Rattle.repo_holdings.specs.Records.{Packet}
 use Rattle.repo_holdings.specs.HoldingsState.{HoldingsState}
-use Rattle.repo_holdings.specs.Taking.{what_came, with_what_came, PartsDiffer}
+use Rattle.repo_holdings.specs.Taking.{fetched_for, with_fetched_for, PartsDiffer}
 use Rattle.repo_holdings.proofs.FreshLemmas.{fetched_stays}
 use Rattle.repo_holdings.proofs.ArrivedLemmas.{job_part, came_at}
 use Rattle.repo_holdings.proofs.holdings.Holdings.content_with.Goals as goal
@@ -46,7 +46,7 @@ pub returns-in-Some-clause-exact : goal.returns-in-Some-clause-exact
 returns-in-Some-clause-exact c =
     stored_still (value_of part_cmp c.args.self.now.store c.args.part) _ c.in-Some.content.now
     (λ octets there.
-    fetched_stays (what_came c.args.jobs.now c.args.parts.now) c.args.self.now.store c.args.part octets there)
+    fetched_stays (fetched_for c.args.jobs.now c.args.parts.now) c.args.self.now.store c.args.part octets there)
     (ap (option_map (λ content. content.now)) (sym c.in-Some.is)
     ∙ c.stored_content.ensures.exact
     ∙ ap (λ (h : HoldingsState). option_map packet_content (value_of part_cmp h.store c.args.part)) c.self.view_is)
@@ -61,10 +61,10 @@ came_there : (jobs : List Job) (parts : List (Option CheckedPart)) (packets : Li
     (checked : CheckedPart) → PartsDiffer (map job_part jobs) → i < length jobs
     → part_cmp (get_or jobs i d).want.part t ≡ Equal → value_of part_cmp packets t ≡ None
     → slice_get parts i ≡ Some (Some checked)
-    → value_of part_cmp (with_what_came jobs parts packets) t ≡ Some checked.octets
+    → value_of part_cmp (with_fetched_for jobs parts packets) t ≡ Some checked.octets
 came_there jobs parts packets t i d checked differ low same none there =
     let part : (get_or jobs i d).want.part ≡ t = exact_parts.same (get_or jobs i d).want.part t same in
-    ap (value_of part_cmp (with_what_came jobs parts packets)) (sym part)
+    ap (value_of part_cmp (with_fetched_for jobs parts packets)) (sym part)
     ∙ came_at jobs parts packets i d checked differ low (ap (value_of part_cmp packets) part ∙ none) there
 
 pub returns-clause-exact : goal.returns-clause-exact

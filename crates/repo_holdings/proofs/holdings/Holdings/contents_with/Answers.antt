@@ -4,7 +4,7 @@ use Rattle.repo_plan.specs.Parts.{Pair}
 use Rattle.repo_holdings.specs.Records.{Packet}
 use Rattle.repo_holdings.specs.Listed.{stored_content, contents_from}
 use Rattle.repo_holdings.specs.HoldingsState.{HoldingsState}
-use Rattle.repo_holdings.specs.Taking.{what_came, with_what_came}
+use Rattle.repo_holdings.specs.Taking.{fetched_for, with_fetched_for}
 use Rattle.repo_holdings.specs.WholeContents.{joined}
 use Rattle.repo_holdings.proofs.ContentLemmas.{joined_more}
 use Rattle.repo_holdings.proofs.FreshLemmas.{StayStored, fetched_stays}
@@ -13,7 +13,7 @@ use Rattle.repo_holdings.proofs.holdings.Holdings.contents_with.Goals as goal
 
 pub loop-x-preserved : goal.loop-x-preserved
 loop-x-preserved c =
-    let after : List Packet = with_what_came c.args.jobs.now c.args.parts.now c.args.self.now.store in
+    let after : List Packet = with_fetched_for c.args.jobs.now c.args.parts.now c.args.self.now.store in
     let pair : Pair = (c.args.publisher, c.args.seq) in
     let first : ℕ = c.in-Some.shape.index + 1 in
     let content : c.in-Some-content_with.content.now ≡ stored_content after pair (first + c.loop-x.x) =
@@ -38,12 +38,12 @@ loop-x-preserved c =
 
 pub returns-clause-contents : goal.returns-clause-contents
 returns-clause-contents c =
-    let after : List Packet = with_what_came c.args.jobs.now c.args.parts.now c.args.self.now.store in
+    let after : List Packet = with_fetched_for c.args.jobs.now c.args.parts.now c.args.self.now.store in
     let pair : Pair = (c.args.publisher, c.args.seq) in
     let all : c.loop-x.x ≡ c.in-Some.shape.segments = omega (arith, c.loop-x-test.false, c.loop-x.auto.x-end) in
     contents_are c.self.inside.plan c.self.inside.store.packets after pair c.in-Some.shape c.loop-x.contents.items
     c.self.invariant.kept.tied
     (subst (λ (h : HoldingsState). StayStored h.store after) (sym c.self.view_is)
-    (fetched_stays (what_came c.args.jobs.now c.args.parts.now) c.args.self.now.store))
+    (fetched_stays (fetched_for c.args.jobs.now c.args.parts.now) c.args.self.now.store))
     (sym c.in-Some.is ∙ c.shape.ensures.shape)
     (c.loop-x.invariant.contents ∙ ap (contents_from after pair (c.in-Some.shape.index + 1)) all)

@@ -5,7 +5,7 @@ use Rattle.repo_holdings.specs.Changing.{changed, change_by}
 use Rattle.repo_holdings.specs.Listed.{entry_at}
 use Rattle.repo_holdings.proofs.NotedLemmas.{noted_from}
 use Rattle.repo_holdings.proofs.StepLemmas.{catalogue_changed}
-use Rattle.repo_holdings.proofs.PublishLemmas.{new_in, new_absent, publication_reported, nothing_before, others_aside}
+use Rattle.repo_holdings.proofs.PublishLemmas.{new_in, new_absent, publication_stated, nothing_before, others_aside}
 use Rattle.repo_holdings.proofs.PublishLemmas.{withdrawn_published, count_packets}
 use Rattle.repo_holdings.proofs.holdings.Holdings.publish_parts.Goals as goal
 
@@ -16,7 +16,7 @@ gain_all-requires-clause-new c =
 pub change_by_summary-change-requires-clause-summary : goal.change_by_summary-change-requires-clause-summary
 change_by_summary-change-requires-clause-summary c =
     let pair : Pair = (c.args.publisher, c.args.seq) in
-    publication_reported c.self.inside.store.packets c.gain_all.new.store.packets pair c.args.packets.items
+    publication_stated c.self.inside.store.packets c.gain_all.new.store.packets pair c.args.packets.items
     c.args.summary
     (new_absent c.self.inside c.args.self.now pair c.self.view_is c.requires.new) c.requires.packets
     c.gain_all.ensures.packets
@@ -44,7 +44,7 @@ invariant_of-self c =
     let lists = c.requires.packets in
     let made = c.args.packets.items in
     let others = others_aside before after pair made c.args.summary absent lists puts in
-    let summary = publication_reported before after pair made c.args.summary absent lists puts in
+    let summary = publication_stated before after pair made c.args.summary absent lists puts in
     let withdrawn =
     withdrawn_published before after pair made c.args.summary absent lists puts c.self.inside.notes.withdrawn
     kept.tied.in_order c.gain_all.ensures.tied.in_order kept.noted.withdrawn in

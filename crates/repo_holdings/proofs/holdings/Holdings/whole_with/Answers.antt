@@ -2,7 +2,7 @@ use Rattle.std.proofs.Common.{◌≡◌, ◌++◌, ◌∷◌, [], List}
 use Rattle.std.specs.List.{All}
 use Rattle.std.proofs.lemmas.List.Elements.{All-push}
 use Rattle.repo_holdings.specs.Records.{Packet}
-use Rattle.repo_holdings.specs.Taking.{with_what_came}
+use Rattle.repo_holdings.specs.Taking.{with_fetched_for}
 use Rattle.repo_holdings.specs.WholeContents.{IsWholeIn}
 use Rattle.repo_holdings.specs.declared.holdings.whole.Whole.{Whole}
 use Rattle.repo_holdings.proofs.holdings.Holdings.whole_with.Goals.{else-may_be_whole}
@@ -12,7 +12,7 @@ use Rattle.repo_holdings.proofs.holdings.Holdings.whole_with.Goals as goal
 
 pub loop-place-preserved : goal.loop-place-preserved
 loop-place-preserved c =
-    let after : List Packet = with_what_came c.args.jobs.now c.args.parts.now c.args.self.now.store in
+    let after : List Packet = with_fetched_for c.args.jobs.now c.args.parts.now c.args.self.now.store in
     let before : All (IsWholeIn after) c.loop-place.whole.items = c.loop-place.invariant in
     elim c.if-may_be_whole.branch [
       | then-may_be_whole+in_ok-contents+in-Some+in_ok-push w ↦

@@ -2,14 +2,14 @@ use Rattle.std.proofs.Common.{Option, sym, subst}
 use Rattle.std.specs.Prelude.{IfSome}
 use Rattle.repo_plan.specs.declared.shape.Shape.{Shape}
 use Rattle.repo_plan.specs.Parts.{IsShape}
-use Rattle.repo_holdings.proofs.AskedLemmas.{reported_shape_sized}
+use Rattle.repo_holdings.proofs.AskedLemmas.{stated_shape_sized}
 use Rattle.repo_holdings.proofs.GainingLemmas.{tied_too}
 use Rattle.repo_holdings.proofs.holdings.gaining.gain.Goals as goal
 
 pub hold_reserved-requires-clause-sized : goal.hold_reserved-requires-clause-sized
 hold_reserved-requires-clause-sized c =
     subst (λ (o : Option Shape). IfSome o IsShape) (sym c.requires.summary)
-    (reported_shape_sized c.args.part c.args.packet)
+    (stated_shape_sized c.args.part c.args.packet)
 
 pub returns-clause-tied : goal.returns-clause-tied
 returns-clause-tied c =

@@ -3,14 +3,14 @@ use Rattle.std.specs.Vec.Iter.{into_iter_items}
 use Rattle.sorted_lists.specs.SortedList.{contains}
 use Rattle.repo_plan.specs.declared.part.Part.{Part}
 use Rattle.repo_plan.specs.declared.shape.Shape.{Shape}
-use Rattle.repo_plan.specs.Parts.{Pair, IsShape, part_cmp, part_of, parts_after}
+use Rattle.repo_plan.specs.Parts.{Pair, IsShape, part_cmp, part_of, last_part}
 use Rattle.repo_plan.specs.Plan.{PlanState}
 use Rattle.repo_store.specs.StoreList.{StoreList}
 use Rattle.repo_object.proofs.IndexLemmas.{index_few}
 use Rattle.repo_holdings.specs.Gaining.{summary_shape}
 use Rattle.repo_holdings.specs.NewPublications.{as_parts, with_packets}
-use Rattle.repo_holdings.proofs.PublishLemmas.{AreToCome, first_listing, gained_none, gained_more, can_ask}
-use Rattle.repo_holdings.proofs.PublishLemmas.{not_claimed, room_kept, reported_first, not_reported, all_to_come}
+use Rattle.repo_holdings.proofs.PublishLemmas.{AreRemaining, first_listing, gained_none, gained_more, can_ask}
+use Rattle.repo_holdings.proofs.PublishLemmas.{not_claimed, room_kept, stated_first, not_stated, all_to_come}
 use Rattle.repo_holdings.proofs.PublishLemmas.{come_later}
 use Rattle.repo_holdings.proofs.PublishLemmas.{reports_shape, lists_many, count_packets, packets_sized}
 use Rattle.repo_holdings.proofs.holdings.publishing.gain_all.Goals.{then-x-eq0, else-x-eq0}
@@ -23,7 +23,7 @@ loop-packet-init c =
     let all = c.into_iter-packet-iterator.ensures.into_iter_gives.0 in
     let fewer = ap (λ (r : List (List ℕ)). length r) all in
     let count = count_packets c.args.summary.now made c.requires.packets in
-    let following = ap parts_after c.shape-shape.ensures in
+    let following = ap last_part c.shape-shape.ensures in
     record {
       stored = ap (λ (r : List (List ℕ)). with_packets (as_parts pair 0 r) c.args.store.now.packets) all;
       tied = c.requires.tied;
@@ -32,7 +32,7 @@ loop-packet-init c =
       store_room = omega (arith, fewer);
       count = omega (arith, fewer, count, following);
       come =
-          subst (λ (r : List (List ℕ)). AreToCome c.args.summary.now (first_listing made) pair 0 r
+          subst (λ (r : List (List ℕ)). AreRemaining c.args.summary.now (first_listing made) pair 0 r
           c.args.store.now.packets) (sym all)
           (all_to_come c.args.summary.now pair made c.args.store.now.packets c.requires.packets);
     }
@@ -51,15 +51,15 @@ pub gain-requires-clause-summary : goal.gain-requires-clause-summary
 gain-requires-clause-summary c =
     reports_shape c.args.summary.now (first_listing c.args.packets.items) (c.args.publisher, c.args.seq) c.loop-packet.x
     c.in-Some.packet (into_iter_items c.next.new.self) c.loop-packet.store.packets
-    (subst (λ (r : List (List ℕ)). AreToCome c.args.summary.now (first_listing c.args.packets.items)
+    (subst (λ (r : List (List ℕ)). AreRemaining c.args.summary.now (first_listing c.args.packets.items)
     (c.args.publisher, c.args.seq) c.loop-packet.x r c.loop-packet.store.packets) c.in-Some.ensures.steps.0
     c.loop-packet.invariant.come)
     c.if-x-eq0.shape
     (elim c.if-x-eq0.branch [
       | then-x-eq0 w ↦
           w.shape-is ∙ ap (λ (s : Shape). Some s) c.shape-shape.ensures
-          ∙ sym (ap (reported_first (summary_shape c.args.summary.now)) w.if-x-eq0.true)
-      | else-x-eq0 w ↦ w.shape-is ∙ sym (not_reported (summary_shape c.args.summary.now) c.loop-packet.x
+          ∙ sym (ap (stated_first (summary_shape c.args.summary.now)) w.if-x-eq0.true)
+      | else-x-eq0 w ↦ w.shape-is ∙ sym (not_stated (summary_shape c.args.summary.now) c.loop-packet.x
           w.if-x-eq0.false)
     ])
 
@@ -67,7 +67,7 @@ pub gain-requires-clause-lists : goal.gain-requires-clause-lists
 gain-requires-clause-lists c =
     lists_many c.args.summary.now (first_listing c.args.packets.items) (c.args.publisher, c.args.seq) c.loop-packet.x
     c.in-Some.packet (into_iter_items c.next.new.self) c.loop-packet.store.packets
-    (subst (λ (r : List (List ℕ)). AreToCome c.args.summary.now (first_listing c.args.packets.items)
+    (subst (λ (r : List (List ℕ)). AreRemaining c.args.summary.now (first_listing c.args.packets.items)
     (c.args.publisher, c.args.seq) c.loop-packet.x r c.loop-packet.store.packets) c.in-Some.ensures.steps.0
     c.loop-packet.invariant.come)
 
@@ -117,8 +117,8 @@ loop-packet-preserved c =
       gained =
           gained_more _ _ pair _ c.loop-packet.x c.requires.new inv.gained c.if-x-eq0.shape _
           (elim c.if-x-eq0.branch [
-            | then-x-eq0 w ↦ w.shape-is ∙ sym (ap (reported_first c.shape-shape.result) w.if-x-eq0.true)
-            | else-x-eq0 w ↦ w.shape-is ∙ sym (not_reported c.shape-shape.result c.loop-packet.x w.if-x-eq0.false)
+            | then-x-eq0 w ↦ w.shape-is ∙ sym (ap (stated_first c.shape-shape.result) w.if-x-eq0.true)
+            | else-x-eq0 w ↦ w.shape-is ∙ sym (not_stated c.shape-shape.result c.loop-packet.x w.if-x-eq0.false)
           ])
           c.gain.ensures.plan;
       plan_room =
@@ -142,7 +142,7 @@ loop-packet-preserved c =
       come =
           come_later c.args.summary.now (first_listing c.args.packets.items) pair c.loop-packet.x c.in-Some.packet later
           c.loop-packet.store.packets
-          (subst (λ (r : List (List ℕ)). AreToCome c.args.summary.now (first_listing c.args.packets.items) pair
+          (subst (λ (r : List (List ℕ)). AreRemaining c.args.summary.now (first_listing c.args.packets.items) pair
           c.loop-packet.x r c.loop-packet.store.packets) rest inv.come)
           c.gain.new.store.packets (ap (λ (s : StoreList). s.packets) c.gain.ensures.store)
           (ap (λ (ts : List Part). contains part_cmp ts (part_of pair c.loop-packet.x)) (sym inv.tied.held)

@@ -18,7 +18,7 @@ use Rattle.repo_process.proofs.LawLemmas.{segments_counted}
 use Rattle.repo_member.specs.declared.member.Member.TheInside.{Inside}
 use Rattle.repo_member.specs.declared.member.block.Blocked.TheVariants as blocked
 use Rattle.repo_member.specs.MemberState.{MemberState, member_publishes}
-use Rattle.repo_member.specs.Blocks.{member_block, member_keeps, after_block, CompletesAnObject, ReportsBlock}
+use Rattle.repo_member.specs.Blocks.{member_block, member_keeps, after_block, CompletesAnObject, IsBlockAnswer}
 use Rattle.repo_member.specs.Members.{member_state, AreWaiting, IsMember}
 use Rattle.repo_member.specs.Posts.{contents_of}
 use Rattle.repo_member.proofs.BlockStates.{ComesLast, comes_last, kept_waiting, nothing_lent, can_take_back, taken_back}
@@ -57,8 +57,8 @@ invariant_of-self-in_default c =
     c.in_default.ensures.object in
     still c.self.inside c.block.new.self nothing.1 c.self.invariant
 
-pub returns-in_default-clause-reported : goal.returns-in_default-clause-reported
-returns-in_default-clause-reported c =
+pub returns-in_default-clause-answer : goal.returns-in_default-clause-answer
+returns-in_default-clause-answer c =
     let nothing =
     nothing_lent c.self.inside.processes c.block.new.self c.args.process c.args.index c.args.content.now
     c.self.invariant.waiting _ refl c.in_ok-block.ensures.ok (sym c.in_ok-block.ensures.state ∙ c.in-Complete.is)
@@ -66,7 +66,7 @@ returns-in_default-clause-reported c =
     let state : member_block c.args.self.now c.args.process c.args.index c.args.content.now ≡ Already =
     ap (λ (a : MemberState). member_block a c.args.process c.args.index c.args.content.now) (sym c.self.view_is)
     ∙ nothing.0 in
-    subst (λ (s : BlockState). ReportsBlock c.args.g.now c.args.self.now
+    subst (λ (s : BlockState). IsBlockAnswer c.args.g.now c.args.self.now
     (member_state (record c.self.inside { processes = c.block.new.self })) s blocked.Already) (sym state) tt
 
 pub returns-in_default-clause-ok : goal.returns-in_default-clause-ok

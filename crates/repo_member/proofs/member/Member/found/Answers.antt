@@ -9,7 +9,7 @@ use Rattle.std.proofs.lemmas.List.Elements.{All-push, All-nil}
 use Rattle.std.specs.List.{All}
 use Rattle.ndn_name.specs.Names.{Component}
 use Rattle.sorted_lists.specs.SortedList.{Rises}
-use Rattle.repo_plan.specs.Parts.{Pair, pair_cmp, parts_after}
+use Rattle.repo_plan.specs.Parts.{Pair, pair_cmp, last_part}
 use Rattle.repo_plan.specs.Plan.{knows, claims_part_in}
 use Rattle.repo_plan.specs.Sound.{PlanIsSound}
 use Rattle.repo_catalog.specs.declared.entry.Entry.{Entry}
@@ -108,7 +108,7 @@ pub overflow_cast-entry : goal.overflow_cast-entry
 overflow_cast-entry c =
     let at =
     named_at c.self.inside c.args.name.now c.deref-publisher-items.result.now c.loop-publisher.publisher-index _
-    c.entry.result c.unwrap-entry.result c.self.invariant c.is_sound.ensures
+    c.entry.result c.unwrap-entry.result c.self.invariant c.cite_soundness.ensures
     (are_named c.self.inside c.args.name.now c.view.result c.deref-publisher-items.result.now _ _
     c.deref-publisher-items.ensures.value c.in_ok-publications.ensures c.view.ensures c.catalogue-catalogue.ensures)
     c.loop-publisher-test.true c.catalogue-catalogue.ensures c.entry.ensures c.unwrap-entry.ensures in
@@ -118,7 +118,7 @@ pub of-requires : goal.of-requires
 of-requires c =
     let at =
     named_at c.self.inside c.args.name.now c.deref-publisher-items.result.now c.loop-publisher.publisher-index _
-    c.entry.result c.unwrap-entry.result c.self.invariant c.is_sound.ensures
+    c.entry.result c.unwrap-entry.result c.self.invariant c.cite_soundness.ensures
     (are_named c.self.inside c.args.name.now c.view.result c.deref-publisher-items.result.now _ _
     c.deref-publisher-items.ensures.value c.in_ok-publications.ensures c.view.ensures c.catalogue-catalogue.ensures)
     c.loop-publisher-test.true c.catalogue-catalogue.ensures c.entry.ensures c.unwrap-entry.ensures in
@@ -130,14 +130,14 @@ overflow_sub-left c =
     let i : ℕ = c.loop-publisher.publisher-index in
     let at =
     named_at c.self.inside c.args.name.now pairs i _
-    c.entry.result c.unwrap-entry.result c.self.invariant c.is_sound.ensures
+    c.entry.result c.unwrap-entry.result c.self.invariant c.cite_soundness.ensures
     (are_named c.self.inside c.args.name.now c.view.result pairs _ _
     c.deref-publisher-items.ensures.value c.in_ok-publications.ensures c.view.ensures c.catalogue-catalogue.ensures)
     c.loop-publisher-test.true c.catalogue-catalogue.ensures c.entry.ensures c.unwrap-entry.ensures in
     let here : c.loop-publisher.left ≡ length (outside_all (take i pairs) c.self.inside.held.store) =
     c.loop-publisher.invariant.left
     ∙ ap (λ (a : MemberState). length (outside_all (take i pairs) a.store)) (sym c.self.view_is) in
-    omega (arith, here, at.fewer, c.parts_after.ensures, ap parts_after c.of.ensures.shape)
+    omega (arith, here, at.fewer, c.last_part.ensures, ap last_part c.of.ensures.shape)
 
 pub loop-publisher-preserved : goal.loop-publisher-preserved
 loop-publisher-preserved c =
@@ -147,7 +147,7 @@ loop-publisher-preserved c =
     let before = c.loop-publisher.invariant in
     let at =
     named_at c.self.inside c.args.name.now pairs i _
-    c.entry.result c.unwrap-entry.result c.self.invariant c.is_sound.ensures
+    c.entry.result c.unwrap-entry.result c.self.invariant c.cite_soundness.ensures
     (are_named c.self.inside c.args.name.now c.view.result pairs _ _
     c.deref-publisher-items.ensures.value c.in_ok-publications.ensures c.view.ensures c.catalogue-catalogue.ensures)
     c.loop-publisher-test.true c.catalogue-catalogue.ensures c.entry.ensures c.unwrap-entry.ensures in
@@ -159,7 +159,7 @@ loop-publisher-preserved c =
     ap (λ (ps : List Pair). length (outside_all ps c.args.self.now.store)) more
     ∙ ap (λ (a : MemberState). length (outside_all (take i pairs ++ pair ∷ []) a.store)) (sym c.self.view_is) in
     record {
-      left = omega (arith, here, there, at.fewer, c.parts_after.ensures, ap parts_after c.of.ensures.shape);
+      left = omega (arith, here, there, at.fewer, c.last_part.ensures, ap last_part c.of.ensures.shape);
       known =
           subst (All (λ (q : Pair). knows (member_plan c.args.self.now) q ≡ true)) (sym more)
           (All-push (λ (q : Pair). knows (member_plan c.args.self.now) q ≡ true) (take i pairs) pair before.known

@@ -6,8 +6,8 @@ use Rattle.repo_member.proofs.member.Member.join_vector.Goals as goal
 
 pub invariant_of-self : goal.invariant_of-self
 invariant_of-self c =
-    learns_is c.self.inside c.args.reported.now _ _ _ c.self.invariant
+    learns_is c.self.inside c.args.received.now _ _ _ c.self.invariant
     (c.requires.width ∙ sym (ap (λ (a : MemberState). length a.known) c.self.view_is))
-    (subst (λ (a : MemberState). slice_index c.args.reported.now a.number ≤ length a.log) (sym c.self.view_is)
+    (subst (λ (a : MemberState). slice_index c.args.received.now a.number ≤ length a.log) (sym c.self.view_is)
     c.requires.own)
     c.learn.ensures.vector c.learn.ensures.held refl

@@ -3,7 +3,7 @@ use Rattle.std.proofs.lemmas.Bool.{true≢false}
 use Rattle.std.proofs.lemmas.List.{length-replicate, get_or-replicate}
 use Rattle.sorted_lists.specs.SortedList.{contains}
 use Rattle.repo_plan.specs.Parts.{pair_cmp}
-use Rattle.svs_sync.specs.KeptVector.{Keeper}
+use Rattle.svs_sync.specs.SyncStates.{SyncState}
 use Rattle.repo_holdings.specs.HoldingsState.{HoldingsState, AreInOrder}
 use Rattle.repo_process.specs.Insertions.{Insertions}
 use Rattle.repo_member.specs.Posts.{posts_of, IsKeptLog}
@@ -26,7 +26,7 @@ invariant_of-result c =
             ap (λ (v : List ℕ). slice_index v c.args.number) known
             ∙ get_or-replicate n c.args.number zero_number 0 inside
             ∙ sym (ap (λ log. length (posts_of log)) c.new.ensures.items);
-        width = ap (λ (m : Keeper). m.members) c.in_ok-new-2.ensures ∙ sym wide;
+        width = ap (λ (m : SyncState). m.members) c.in_ok-new-2.ensures ∙ sym wide;
         in_order = subst AreInOrder (sym held) tt;
         hidden =
             λ pair h. absurd (true≢false (sym h ∙ ap (λ (x : HoldingsState). contains pair_cmp x.hidden pair) held));

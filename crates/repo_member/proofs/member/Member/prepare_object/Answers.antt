@@ -35,7 +35,7 @@ returns-clause-prepared c =
       packed = packed c;
       parts =
           packets_are (publisher_at c.args.g.now c.args.self.now.number) (next_seq c.args.self.now)
-          (is_publisher c.args.g.now c.args.self.now.number c.is_sound.ensures inside)
+          (is_publisher c.args.g.now c.args.self.now.number c.cite_soundness.ensures inside)
           low (Offers c.args.object.now)
           c.name-2.ensures.within _ (λ i. Object (shaped c i) (named c i)) _ (packed c);
       synced = c.in_ok-sync.ensures;

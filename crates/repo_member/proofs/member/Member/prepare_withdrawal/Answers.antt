@@ -26,7 +26,7 @@ returns c =
       packed = packed;
       parts =
           packets_are (publisher_at c.args.g.now c.args.self.now.number) (next_seq c.args.self.now)
-          (is_publisher c.args.g.now c.args.self.now.number c.is_sound.ensures inside) low
+          (is_publisher c.args.g.now c.args.self.now.number c.cite_soundness.ensures inside) low
           (Withdraws c.args.withdrawn) c.requires.earlier _ refl _ packed;
       synced = c.in_ok-sync.ensures;
     }

@@ -10,7 +10,7 @@ publish_parts-requires-clause-new c =
     let number = c.self.inside.number in
     let log : ℕ = length c.args.self.now.log in
     subst (λ (n : ℕ). IsNew (held_plan c.raise.new.self) (number, n)) (sym c.next_seq-seq.ensures)
-    (next_is_new c.self.inside c.raise.new.self _ log c.self.invariant c.is_sound.ensures
+    (next_is_new c.self.inside c.raise.new.self _ log c.self.invariant c.cite_soundness.ensures
     (sym (ap (λ (a : MemberState). length a.log) c.self.view_is))
     (c.raise.ensures
     ∙ ap (λ (h : HoldingsState). knows_too number c.next_seq-seq.result h) c.in-Ok-reserve.ensures.ok

@@ -26,7 +26,7 @@ map_err-requires c =
     subst IsPlainNodeName
     (sym (unwrap_or-slice_get names number [])
     ∙ ap (λ o. unwrap_or o []) (ap (λ ns. slice_get ns number) (sym c.roster.ensures.names) ∙ c.name-2.ensures))
-    (c.is_sound.ensures.members.node_names number [] inside) in
+    (c.cite_soundness.ensures.members.node_names number [] inside) in
     let keyed : length (encoding c.in_ok-key_name.key_name) ≤ 205 =
     omega (
       arith,

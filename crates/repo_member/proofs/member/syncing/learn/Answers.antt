@@ -13,15 +13,15 @@ loop-member-init c =
 pub raise-requires : goal.raise-requires
 raise-requires c =
     let known = ap (λ (p : HoldingsState). length p.known) c.loop-member.invariant in
-    let long = length-join_take c.args.vector.now c.args.reported.now c.loop-member.member c.requires.width in
+    let long = length-join_take c.args.vector.now c.args.received.now c.loop-member.member c.requires.width in
     omega (arith, known, long, c.requires.width)
 
 pub loop-member-preserved : goal.loop-member-preserved
 loop-member-preserved c =
-    let so_far = join c.args.vector.now (take c.loop-member.member c.args.reported.now) in
+    let so_far = join c.args.vector.now (take c.loop-member.member c.args.received.now) in
     c.raise.ensures ∙ ap (knows_too c.loop-member.member c.get.result) c.loop-member.invariant
     ∙ ap (λ (n : ℕ). record c.args.held.now {
       known = slice_set so_far c.loop-member.member (max (slice_index so_far c.loop-member.member) n);
     }) c.get.ensures
     ∙ ap (λ (k : List ℕ). record c.args.held.now { known = k })
-    (join_next c.args.vector.now c.args.reported.now c.loop-member.member (omega arith) c.requires.width)
+    (join_next c.args.vector.now c.args.received.now c.loop-member.member (omega arith) c.requires.width)

@@ -3,7 +3,7 @@ use Rattle.std.proofs.lemmas.List.{length-replicate}
 use Rattle.std.proofs.lemmas.List.Elements.{All-nil}
 use Rattle.repo_holdings.specs.HoldingsState.{HoldingsState}
 use Rattle.repo_mirror.specs.Asked.{asked_numbers}
-use Rattle.repo_mirror.specs.KeptPackets.{IsKeptPacket, AreKeptPackets}
+use Rattle.repo_mirror.specs.PacketsFor.{IsPacketFor, ArePacketsFor}
 use Rattle.repo_mirror.proofs.AskedLemmas.{asked_none}
 use Rattle.repo_mirror.proofs.mirror.Mirror.new.Goals as goal
 
@@ -21,6 +21,6 @@ invariant_of-result c =
           ∙ sym (ap (asked_numbers c.args.pattern.publisher 0) known ∙ asked_none c.args.pattern.publisher 0 n);
       claims = ap (λ (h : HoldingsState). h.claims) held;
       packets =
-          subst (λ (h : HoldingsState). AreKeptPackets c.args.pattern h.store) (sym held)
-          (All-nil (IsKeptPacket c.args.pattern));
+          subst (λ (h : HoldingsState). ArePacketsFor c.args.pattern h.store) (sym held)
+          (All-nil (IsPacketFor c.args.pattern));
     }

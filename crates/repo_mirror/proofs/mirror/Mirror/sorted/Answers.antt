@@ -21,9 +21,9 @@ use Rattle.repo_holdings.specs.declared.holdings.taking.Tried.{Tried}
 use Rattle.repo_member.specs.Outcomes.{outcome_of}
 use Rattle.repo_member.proofs.OutcomeLemmas.{nothing_left, parts_came}
 use Rattle.repo_watch.specs.declared.pattern.Pattern.{Pattern}
-use Rattle.repo_mirror.specs.KeptPackets.{CameChecked}
+use Rattle.repo_mirror.specs.PacketsFor.{IsCheckedFetch}
 use Rattle.repo_mirror.specs.MirrorState.{MirrorState, fetch_plan}
-use Rattle.repo_mirror.specs.Passing.{is_fetched_kept, that_are_kept, not_kept, IsUnknownIn}
+use Rattle.repo_mirror.specs.Passing.{is_fetch_for, fetches_for, not_kept, IsUnknownIn}
 use Rattle.repo_mirror.proofs.MirrorLemmas.{reading}
 use Rattle.repo_mirror.proofs.SortedLemmas.{kept_step, passed_still, kept_still, passed_step, passed_record}
 use Rattle.repo_mirror.proofs.SortedLemmas.{kept_differ, kept_apart}
@@ -53,10 +53,10 @@ loop-job-init g c =
     let none = c.new-passed.ensures.items in
     let nothing = c.in_ok-kept.ensures.items in
     record {
-      kept = λ i. map came (nothing i) ++ that_are_kept pattern (outcome_of (jobs i) (parts i) (tries i));
+      kept = λ i. map came (nothing i) ++ fetches_for pattern (outcome_of (jobs i) (parts i) (tries i));
       passed = λ i. insert_keys pair_cmp (not_kept pattern (outcome_of (jobs i) (parts i) (tries i))) (none i);
       in_order = subst (Rises pair_cmp) (sym none) tt;
-      checked = subst (λ (xs : List Tried). All CameChecked (map came xs)) (sym nothing) (All-nil CameChecked);
+      checked = subst (λ (xs : List Tried). All IsCheckedFetch (map came xs)) (sym nothing) (All-nil IsCheckedFetch);
       can =
           λ k d low. absurd (let empty = ap (λ (xs : List Tried). length xs) nothing in omega (arith, low, empty));
       unknown =
@@ -76,34 +76,34 @@ loop-job-preserved-in-Continue-branch-3 g c =
     let part = c.in-Some.checked.now in
     let n = c.in-Some.tries.now in
     let one : Tried = c.in_ok-tried.tried in
-    let reported = c.in_ok-tried.ensures in
+    let received = c.in_ok-tried.ensures in
     let is = first_job m job part n _ _ _ _ _ _ steps.0.0 steps.0.1 steps.1 inv.rest in
     let first = first_outcome m job part n _ _ _ _ _ _ steps.0.0 steps.0.1 steps.1 in
     let later = outcome_of (iter_rest (zip_first (zip_first c.next.new.self)))
     (iter_rest (zip_second (zip_first c.next.new.self))) (iter_rest (zip_second c.next.new.self)) in
     let same : came one ≡ fetched m job part n =
-    came_is m job part n one is.0 reported.part reported.attempts
-    (reported.packet ∙ lent_octets c.as_ref.result part c.as_ref.ensures.value) in
-    let kept : is_fetched_kept m.pattern (fetched m job part n) ≡ true =
-    ap (λ (p : Pattern). is_fetched_kept p (fetched m job part n))
+    came_is m job part n one is.0 received.part received.attempts
+    (received.packet ∙ lent_octets c.as_ref.result part c.as_ref.ensures.value) in
+    let kept : is_fetch_for m.pattern (fetched m job part n) ≡ true =
+    ap (λ (p : Pattern). is_fetch_for p (fetched m job part n))
     (sym (ap (λ (s : MirrorState). s.pattern) c.self.view_is))
-    ∙ ap (is_fetched_kept c.self.inside.pattern) (sym same)
-    ∙ sym c.is_kept.ensures
-    ∙ c.if-is_kept.true in
+    ∙ ap (is_fetch_for c.self.inside.pattern) (sym same)
+    ∙ sym c.is_for.ensures
+    ∙ c.if-is_for.true in
     let pushed = c.in_ok-push.ensures.items in
-    let arrived = reported.arrival m.store (wants_lists m job part n is.0) in
-    let can = can_be_taken m job part n one is.0 reported.part reported.attempts arrived in
+    let arrived = received.arrival m.store (wants_lists m job part n is.0) in
+    let can = can_be_taken m job part n one is.0 received.part received.attempts arrived in
     record {
       kept =
-          ap (λ (xs : List Tried). map came xs ++ that_are_kept m.pattern later) pushed
+          ap (λ (xs : List Tried). map came xs ++ fetches_for m.pattern later) pushed
           ∙ kept_step m.pattern (fetched m job part n) _ _ first kept c.loop-job.kept.items one same
           ∙ inv.kept;
       passed = passed_still m.pattern (fetched m job part n) _ _ first kept c.loop-job.passed.items ∙ inv.passed;
       in_order = inv.in_order;
       checked =
-          subst (All CameChecked)
+          subst (All IsCheckedFetch)
           (sym (ap (map came) pushed ∙ map-append came c.loop-job.kept.items (one ∷ [])))
-          (All-push CameChecked (map came c.loop-job.kept.items) (came one) inv.checked reported.checked);
+          (All-push IsCheckedFetch (map came c.loop-job.kept.items) (came one) inv.checked received.checked);
       can =
           subst (All (CanBeTaken (fetch_plan m) m.store)) (sym pushed)
           (All-push (CanBeTaken (fetch_plan m) m.store) c.loop-job.kept.items one inv.can can);
@@ -127,26 +127,26 @@ loop-job-preserved-in_ok-put_in_order g c =
     let part = c.in-Some.checked.now in
     let n = c.in-Some.tries.now in
     let one : Tried = c.in_ok-tried.tried in
-    let reported = c.in_ok-tried.ensures in
+    let received = c.in_ok-tried.ensures in
     let is = first_job m job part n _ _ _ _ _ _ steps.0.0 steps.0.1 steps.1 inv.rest in
     let first = first_outcome m job part n _ _ _ _ _ _ steps.0.0 steps.0.1 steps.1 in
     let later = outcome_of (iter_rest (zip_first (zip_first c.next.new.self)))
     (iter_rest (zip_second (zip_first c.next.new.self))) (iter_rest (zip_second c.next.new.self)) in
     let same : came one ≡ fetched m job part n =
-    came_is m job part n one is.0 reported.part reported.attempts
-    (reported.packet ∙ lent_octets c.as_ref.result part c.as_ref.ensures.value) in
-    let passed : is_fetched_kept m.pattern (fetched m job part n) ≡ false =
-    ap (λ (p : Pattern). is_fetched_kept p (fetched m job part n))
+    came_is m job part n one is.0 received.part received.attempts
+    (received.packet ∙ lent_octets c.as_ref.result part c.as_ref.ensures.value) in
+    let passed : is_fetch_for m.pattern (fetched m job part n) ≡ false =
+    ap (λ (p : Pattern). is_fetch_for p (fetched m job part n))
     (sym (ap (λ (s : MirrorState). s.pattern) c.self.view_is))
-    ∙ ap (is_fetched_kept c.self.inside.pattern) (sym same)
-    ∙ sym c.is_kept.ensures
-    ∙ c.if-is_kept.false in
-    let here : pair_of one.part ≡ pair_of job.want.part = ap pair_of reported.part in
+    ∙ ap (is_fetch_for c.self.inside.pattern) (sym same)
+    ∙ sym c.is_for.ensures
+    ∙ c.if-is_for.false in
+    let here : pair_of one.part ≡ pair_of job.want.part = ap pair_of received.part in
     let more : c.put_in_order.new.passed.items ≡ insert_key pair_cmp (pair_of job.want.part) c.loop-job.passed.items =
     c.in_ok-put_in_order.ensures ∙ ap (λ (k : Pair). insert_key pair_cmp k c.loop-job.passed.items) here in
     let sound : PlanIsSound (fetch_plan m) =
     subst PlanIsSound (reading (λ (p : PlanState). p) c.self.inside m c.self.invariant c.self.view_is)
-    c.is_sound.ensures in
+    c.cite_soundness.ensures in
     let new : IsUnknownIn (fetch_plan m) (pair_of job.want.part) =
     wanted_unknown (fetch_plan m) job.want.part sound is.0.part_wanted
     (passed_record m.pattern (fetched m job part n) passed) in
@@ -186,7 +186,7 @@ returns-clause-kept g c =
       | inr tries ↦ inr (inr tries.1.0)
     ]) in
     sym (append-nil (map came c.loop-job.kept.items))
-    ∙ ap (λ (xs : List Fetched). map came c.loop-job.kept.items ++ that_are_kept c.args.self.now.pattern xs)
+    ∙ ap (λ (xs : List Fetched). map came c.loop-job.kept.items ++ fetches_for c.args.self.now.pattern xs)
     (sym nothing)
     ∙ c.loop-job.invariant.kept
 
@@ -237,7 +237,7 @@ returns-clause-others g c = λ k d low.
     false_from_ne_true (contains pair_cmp c.loop-job.passed.items (pair_of x.part)) (λ h.
     let zero = (c.loop-job.invariant.unknown (pair_of x.part) h).record_alone x.part refl
     (c.loop-job.invariant.can k d low).asked in
-    let among : contains part_cmp (map (λ (y : Fetched). y.part) (that_are_kept m.pattern all)) x.part ≡ true =
+    let among : contains part_cmp (map (λ (y : Fetched). y.part) (fetches_for m.pattern all)) x.part ≡ true =
     subst (λ (ts : List Part). contains part_cmp ts x.part ≡ true)
     (parts_came kept ∙ ap (map (λ (y : Fetched). y.part)) (returns-clause-kept g c))
     (contains_in exact_parts (map (λ (y : Tried). y.part) kept) x.part

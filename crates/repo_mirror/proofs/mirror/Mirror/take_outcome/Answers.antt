@@ -9,9 +9,9 @@ use Rattle.repo_holdings.specs.Records.{Packet}
 use Rattle.repo_holdings.specs.Taking.{Fetched, came, with_all_fetched}
 use Rattle.repo_member.specs.Outcomes.{outcome_of}
 use Rattle.repo_watch.specs.declared.pattern.Pattern.{Pattern}
-use Rattle.repo_mirror.specs.KeptPackets.{CameChecked, AreKeptPackets}
+use Rattle.repo_mirror.specs.PacketsFor.{IsCheckedFetch, ArePacketsFor}
 use Rattle.repo_mirror.specs.MirrorState.{MirrorState}
-use Rattle.repo_mirror.specs.Passing.{that_are_kept, not_kept}
+use Rattle.repo_mirror.specs.Passing.{fetches_for, not_kept}
 use Rattle.repo_mirror.proofs.JobLemmas.{as_many}
 use Rattle.repo_mirror.proofs.KeptLemmas.{kept_packets}
 use Rattle.repo_mirror.proofs.mirror.Mirror.take_outcome.Goals as goal
@@ -33,16 +33,16 @@ invariant_of-self-2 g c =
     let stored : List Packet = c.self.inside.held.store in
     let all = outcome_of c.args.jobs.now c.args.parts.now c.args.attempts.now in
     let taken = c.in_ok-take_sorted.ensures.ok in
-    let kept : map came c.in_ok-kept.field-0.kept.items ≡ that_are_kept pattern all =
-    c.in_ok-kept.ensures.kept ∙ ap (λ (m : MirrorState). that_are_kept m.pattern all) (sym c.self.view_is) in
+    let kept : map came c.in_ok-kept.field-0.kept.items ≡ fetches_for pattern all =
+    c.in_ok-kept.ensures.kept ∙ ap (λ (m : MirrorState). fetches_for m.pattern all) (sym c.self.view_is) in
     record {
       few = c.self.invariant.few;
       known = ap (λ (h : HoldingsState). h.known) taken ∙ c.self.invariant.known;
       claims = ap (λ (h : HoldingsState). h.claims) taken ∙ c.self.invariant.claims;
       packets =
-          subst (AreKeptPackets pattern)
+          subst (ArePacketsFor pattern)
           (sym (ap (λ (h : HoldingsState). h.store) taken
           ∙ ap (λ (xs : List Fetched). with_all_fetched xs stored) kept))
-          (kept_packets pattern all stored (subst (All CameChecked) kept c.in_ok-kept.ensures.checked)
+          (kept_packets pattern all stored (subst (All IsCheckedFetch) kept c.in_ok-kept.ensures.checked)
           c.self.invariant.packets);
     }

@@ -2,7 +2,7 @@ use Rattle.std.proofs.Common.{ℕ, max, slice_index_or, sym, ap, ◌∙◌, subs
 use Rattle.repo_holdings.specs.Listed.{is_withdrawal}
 use Rattle.repo_holdings.specs.HoldingsState.{HoldingsState, held_plan}
 use Rattle.repo_holdings.specs.Hiding.{hides_all, with_hidden}
-use Rattle.repo_holdings.specs.Taking.{AreTakable, came, takes_too}
+use Rattle.repo_holdings.specs.Taking.{AreTakable, came, after_outcome}
 use Rattle.repo_mirror.proofs.HidingLemmas.{none_withdrawn, hides_only, still_takable}
 use Rattle.repo_mirror.proofs.mirror.outcome.take_sorted.Goals as goal
 
@@ -24,7 +24,7 @@ take-requires-clause-takable c =
 pub returns-clause-ok : goal.returns-clause-ok
 returns-clause-ok c =
     c.take.ensures.taken
-    ∙ ap (takes_too (map came c.args.kept.items))
+    ∙ ap (after_outcome (map came c.args.kept.items))
     (c.in_ok-hide_all.ensures.ok
     ∙ ap (hides_all c.args.passed.now) c.in_ok-reserve.ensures.ok
     ∙ hides_only c.args.passed.now c.args.held.now (max c.args.held.now.spare c.len.result) c.requires.unknown

@@ -9,7 +9,7 @@ pub invariant_of-result : goal.invariant_of-result
 invariant_of-result c =
     let contents = c.args.contents.items in
     record {
-      name = c.is_sound.ensures.name;
+      name = c.cite_soundness.ensures.name;
       named = c.requires.name;
       few = omega (arith, c.requires.few, length-map contents items);
       contents = All-map IsContent items contents c.requires.contents;

@@ -1,5 +1,5 @@
 use Rattle.std.proofs.Common.{sym, arith}
-use Rattle.repo_object.specs.Readers.{digests_to_come}
+use Rattle.repo_object.specs.Readers.{remaining_digests}
 use Rattle.repo_object.proofs.RecordLemmas.{listing_read}
 use Rattle.repo_object.proofs.record_view.RecordView.read.Goals as goal
 
@@ -7,5 +7,5 @@ pub new-requires-in-Lists : goal.new-requires-in-Lists
 new-requires-in-Lists c =
     let read = rw c.in-Lists.is at c.in_ok-seq.ensures.read in
     listing_read c.args.content.now c.in-Lists.name c.in-Lists.segments c.in_ok-digests-in-Lists.digests
-    (digests_to_come c.in-Lists.digests) (λ i. omega (arith, c.type_inv.content i)) (omega arith) read
+    (remaining_digests c.in-Lists.digests) (λ i. omega (arith, c.type_inv.content i)) (omega arith) read
     (sym c.in_ok-digests-in-Lists.ensures)

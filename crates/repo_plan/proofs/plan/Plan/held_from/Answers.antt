@@ -20,22 +20,22 @@ later_least p s t (Some u) r h e = absurd (true≢false e)
 
 pub returns-then-is_some-clause-least : goal.returns-then-is_some-clause-least
 returns-then-is_some-clause-least c =
-    here_least c.args.self.now c.is_sound.ensures c.args.part c.held_here-here.result c.held_here-here.ensures
+    here_least c.args.self.now c.cite_soundness.ensures c.args.part c.held_here-here.result c.held_here-here.ensures
     (sym c.if-is_some.ensures)
 
 pub returns-then-is_some-clause-list : goal.returns-then-is_some-clause-list
 returns-then-is_some-clause-list c =
-    listed_least c.args.self.now c.is_sound.ensures c.args.part c.held_here-here.result
-    (here_least c.args.self.now c.is_sound.ensures c.args.part c.held_here-here.result c.held_here-here.ensures
+    listed_least c.args.self.now c.cite_soundness.ensures c.args.part c.held_here-here.result
+    (here_least c.args.self.now c.cite_soundness.ensures c.args.part c.held_here-here.result c.held_here-here.ensures
     (sym c.if-is_some.ensures))
 
 pub returns-else-is_some-clause-least : goal.returns-else-is_some-clause-least
 returns-else-is_some-clause-least c =
-    later_least c.args.self.now c.is_sound.ensures c.args.part c.held_here-here.result c.record_after.result
+    later_least c.args.self.now c.cite_soundness.ensures c.args.part c.held_here-here.result c.record_after.result
     c.held_here-here.ensures (sym c.if-is_some.ensures) c.record_after.ensures
 
 pub returns-else-is_some-clause-list : goal.returns-else-is_some-clause-list
 returns-else-is_some-clause-list c =
-    listed_least c.args.self.now c.is_sound.ensures c.args.part c.record_after.result
-    (later_least c.args.self.now c.is_sound.ensures c.args.part c.held_here-here.result c.record_after.result
+    listed_least c.args.self.now c.cite_soundness.ensures c.args.part c.record_after.result
+    (later_least c.args.self.now c.cite_soundness.ensures c.args.part c.held_here-here.result c.record_after.result
     c.held_here-here.ensures (sym c.if-is_some.ensures) c.record_after.ensures)

@@ -4,7 +4,7 @@ use Rattle.std.specs.Ordering.{nat_cmp}
 use Rattle.sorted_lists.specs.Runs.{has_number}
 use Rattle.repo_plan.specs.Parts.{part_of, pair_of}
 use Rattle.repo_plan.specs.Plan.{PlanState, holds, shape_of}
-use Rattle.repo_plan.proofs.Views.{held_reported, gap_open}
+use Rattle.repo_plan.proofs.Views.{held_counted, gap_open}
 use Rattle.repo_plan.proofs.Leaps.{beyond_last}
 use Rattle.repo_plan.proofs.plan.Plan.held_here.Goals as goal
 
@@ -12,8 +12,8 @@ pub returns-then-contains : goal.returns-then-contains
 returns-then-contains c =
     let t = c.args.part in
     let shape = ap (λ (p : PlanState). shape_of p (pair_of t)) c.self.view_is ∙ sym c.in-Some.ensures.shape in
-    let held = held_reported c.self.inside c.self.invariant t c.in-Some.shape shape
-    (omega (arith, c.if-from-parts_after.true)) in (
+    let held = held_counted c.self.inside c.self.invariant t c.in-Some.shape shape
+    (omega (arith, c.if-from-last_part.true)) in (
       refl,
       omega arith,
       ap (λ (p : PlanState). holds p t) (sym c.self.view_is)
@@ -50,4 +50,4 @@ returns-in_default c = λ x a.
     let shape = ap (λ (p : PlanState). shape_of p pair) c.self.view_is ∙ sym c.in-Some.ensures.shape in
     subst (λ (p : PlanState). holds p (part_of pair x) ≡ false) c.self.view_is
     (beyond_last c.self.inside c.self.invariant pair x c.in-Some.shape shape
-    (omega (arith, a, c.if-from-parts_after.false, c.parts_after.ensures, c.from.ensures)))
+    (omega (arith, a, c.if-from-last_part.false, c.last_part.ensures, c.from.ensures)))

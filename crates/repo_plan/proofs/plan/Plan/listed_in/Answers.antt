@@ -1,14 +1,14 @@
 use Rattle.std.proofs.Common.{◌≡◌, ℕ, ◌+◌, true, false, sym, ap, ◌∙◌, arith}
 use Rattle.std.specs.Prelude.{is_some}
-use Rattle.repo_plan.specs.Parts.{part_of, parts_after, parent_number}
-use Rattle.repo_plan.specs.Plan.{holds, is_asked}
+use Rattle.repo_plan.specs.Parts.{part_of, last_part, parent_number}
+use Rattle.repo_plan.specs.Plan.{holds, may_be_asked_for}
 use Rattle.repo_plan.proofs.Counts.{none_until, all_until, none_left}
 use Rattle.repo_plan.proofs.Known.{listed_asked, unlisted}
 use Rattle.repo_plan.proofs.plan.Plan.listed_in.Goals as goal
 
 pub is_listed-requires : goal.is_listed-requires
 is_listed-requires c =
-    record { «record» = sym (c.is_sound.ensures.shapes c.args.publication) ∙ ap is_some c.requires.shape }
+    record { «record» = sym (c.cite_soundness.ensures.shapes c.args.publication) ∙ ap is_some c.requires.shape }
 
 pub loop-passed-preserved-then-is_listed : goal.loop-passed-preserved-then-is_listed
 loop-passed-preserved-then-is_listed c =
@@ -19,7 +19,7 @@ loop-passed-preserved-then-is_listed c =
     let end = c.end_of_list-end.result in
     let held : holds now (part_of pair (parent_number shape passed)) ≡ true =
     sym c.is_listed.ensures ∙ c.if-is_listed.true in
-    let here = all_until (λ x. is_asked now (part_of pair x)) passed end (parts_after shape + 1)
+    let here = all_until (λ x. may_be_asked_for now (part_of pair x)) passed end (last_part shape + 1)
     (omega (arith, c.end_of_list-end.ensures.following)) c.end_of_list-end.ensures.within (λ x a b.
     listed_asked now pair shape x c.requires.known c.requires.shape
     (omega (arith, b, c.end_of_list-end.ensures.within))
@@ -38,9 +38,9 @@ loop-passed-preserved c =
     let end = c.end_of_list-end.result in
     let lacks : holds now (part_of pair (parent_number shape passed)) ≡ false =
     sym c.is_listed.ensures ∙ c.if-is_listed.false in
-    let here = none_until (λ x. is_asked now (part_of pair x)) passed end (parts_after shape + 1)
+    let here = none_until (λ x. may_be_asked_for now (part_of pair x)) passed end (last_part shape + 1)
     (omega (arith, c.end_of_list-end.ensures.following)) c.end_of_list-end.ensures.within (λ x a b.
-    unlisted now c.is_sound.ensures pair shape x c.requires.shape
+    unlisted now c.cite_soundness.ensures pair shape x c.requires.shape
     (ap (λ (n : ℕ). holds now (part_of pair n)) (c.end_of_list-end.ensures.same x a b) ∙ lacks)) in
     record {
       whole = omega (arith, c.loop-passed.invariant.whole, here);
@@ -49,7 +49,7 @@ loop-passed-preserved c =
 
 pub returns : goal.returns
 returns c =
-    let none = none_left (λ x. is_asked c.args.self.now (part_of c.args.publication x)) c.loop-passed.passed
-    (parts_after c.args.shape + 1)
-    (λ x a b. absurd (omega (arith, a, b, c.loop-passed-test.false, c.parts_after-reported.ensures))) in
+    let none = none_left (λ x. may_be_asked_for c.args.self.now (part_of c.args.publication x)) c.loop-passed.passed
+    (last_part c.args.shape + 1)
+    (λ x a b. absurd (omega (arith, a, b, c.loop-passed-test.false, c.last_part-last_number.ensures))) in
     omega (arith, c.loop-passed.invariant.whole, none)

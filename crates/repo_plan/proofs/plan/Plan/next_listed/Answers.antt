@@ -1,5 +1,5 @@
 use Rattle.std.proofs.Common.{◌≡◌, ℕ, ◌≤◌, ◌<◌, true, false, sym, ap, ◌∙◌, subst, arith}
-use Rattle.repo_plan.specs.Parts.{part_of, parts_reported, parent_number}
+use Rattle.repo_plan.specs.Parts.{part_of, last_known_part, parent_number}
 use Rattle.repo_plan.specs.Plan.{PlanState, holds, is_done, shape_of}
 use Rattle.repo_plan.specs.Sound.{PlanIsSound}
 use Rattle.repo_plan.proofs.Known.{listed_asked, unlisted}
@@ -12,18 +12,19 @@ pub loop-passed-init : goal.loop-passed-init
 loop-passed-init c x l =
     not_next c.args.self.now c.args.after (part_of c.args.publication x) (c.passed_parts-passed.ensures x l)
 
-pub returns-then-x-reported : goal.returns-then-x-reported
-returns-then-x-reported c =
+pub returns-then-x-last_number : goal.returns-then-x-last_number
+returns-then-x-last_number c =
     let now = c.args.self.now in
     let pair = c.args.publication in
-    let reported : c.parts_after-reported.result ≡ parts_reported (shape_of now pair) =
-    c.parts_after-reported.ensures ∙ sym (ap parts_reported c.requires.shape) in
+    let last_number : c.last_part-last_number.result ≡ last_known_part (shape_of now pair) =
+    c.last_part-last_number.ensures ∙ sym (ap last_known_part c.requires.shape) in
     let held : (m : ℕ) → c.loop-passed.passed ≤ m → m < c.gap_from-x.result → holds now (part_of pair m) ≡ true =
     λ m a b.
     subst (λ (p : PlanState). holds p (part_of pair m) ≡ true) c.self.view_is
     (c.self.invariant.all_held (pair, m) (c.gap_from-x.ensures.none_before m a b)) in
     let below = none_held now c.args.after pair c.loop-passed.passed c.gap_from-x.result c.loop-passed.invariant held in
-    sym (none_until now c.args.after pair c.gap_from-x.result below (omega (arith, reported, c.if-x-reported.true)))
+    sym (none_until now c.args.after pair c.gap_from-x.result below
+    (omega (arith, last_number, c.if-x-last_number.true)))
 
 pub loop-passed-preserved-then-not-is_listed : goal.loop-passed-preserved-then-not-is_listed
 loop-passed-preserved-then-not-is_listed c =
@@ -48,7 +49,7 @@ is_next-requires-clause-asked c =
     let listed : holds now (part_of pair (parent_number c.args.shape c.gap_from-x.result)) ≡ true =
     sym c.is_listed.ensures ∙ c.if-not-is_listed.false in
     listed_asked now pair c.args.shape c.gap_from-x.result c.requires.known c.requires.shape
-    (omega (arith, c.parts_after-reported.ensures, c.if-x-reported.false)) listed
+    (omega (arith, c.last_part-last_number.ensures, c.if-x-last_number.false)) listed
 
 pub is_next-requires-clause-not_held : goal.is_next-requires-clause-not_held
 is_next-requires-clause-not_held c =
@@ -61,14 +62,15 @@ pub returns-then-is_next : goal.returns-then-is_next
 returns-then-is_next c =
     let now = c.args.self.now in
     let pair = c.args.publication in
-    let reported : c.parts_after-reported.result ≡ parts_reported (shape_of now pair) =
-    c.parts_after-reported.ensures ∙ sym (ap parts_reported c.requires.shape) in
+    let last_number : c.last_part-last_number.result ≡ last_known_part (shape_of now pair) =
+    c.last_part-last_number.ensures ∙ sym (ap last_known_part c.requires.shape) in
     let held : (m : ℕ) → c.loop-passed.passed ≤ m → m < c.gap_from-x.result → holds now (part_of pair m) ≡ true =
     λ m a b.
     subst (λ (p : PlanState). holds p (part_of pair m) ≡ true) c.self.view_is
     (c.self.invariant.all_held (pair, m) (c.gap_from-x.ensures.none_before m a b)) in
     let below = none_held now c.args.after pair c.loop-passed.passed c.gap_from-x.result c.loop-passed.invariant held in
-    sym (found_gap now c.args.after pair c.gap_from-x.result below (omega (arith, reported, c.if-x-reported.false))
+    sym (found_gap now c.args.after pair c.gap_from-x.result below
+    (omega (arith, last_number, c.if-x-last_number.false))
     (sym c.is_next.ensures ∙ c.if-is_next.true))
 
 pub loop-passed-preserved : goal.loop-passed-preserved
@@ -87,7 +89,7 @@ pub returns : goal.returns
 returns c =
     let now = c.args.self.now in
     let pair = c.args.publication in
-    let reported : c.parts_after-reported.result ≡ parts_reported (shape_of now pair) =
-    c.parts_after-reported.ensures ∙ sym (ap parts_reported c.requires.shape) in
+    let last_number : c.last_part-last_number.result ≡ last_known_part (shape_of now pair) =
+    c.last_part-last_number.ensures ∙ sym (ap last_known_part c.requires.shape) in
     sym (none_until now c.args.after pair c.loop-passed.passed c.loop-passed.invariant
-    (omega (arith, reported, c.loop-passed-test.false)))
+    (omega (arith, last_number, c.loop-passed-test.false)))

@@ -7,7 +7,7 @@ use Rattle.repo_plan.proofs.plan.Plan.record_after.Goals as goal
 
 pub returns-in_default : goal.returns-in_default
 returns-in_default c = λ u i.
-    none_known c.args.self.now c.is_sound.ensures c.args.part
+    none_known c.args.self.now c.cite_soundness.ensures c.args.part
     (subst (IsNextKnown c.args.self.now (pair_of c.args.part)) c.in_default.is c.next_known.ensures) u i
 
 pub returns-in-Some-first_from : goal.returns-in-Some-first_from

@@ -1,8 +1,8 @@
 use Rattle.std.proofs.Common.{◌+◌, length, sym, ap, ◌∙◌, arith}
 use Rattle.std.specs.List.{filter}
 use Rattle.repo_plan.specs.Counts.{how_many}
-use Rattle.repo_plan.specs.Parts.{Pair, part_of, parts_after}
-use Rattle.repo_plan.specs.Plan.{PlanState, knows, shape_of, is_in, is_asked, wanted}
+use Rattle.repo_plan.specs.Parts.{Pair, part_of, last_part}
+use Rattle.repo_plan.specs.Plan.{PlanState, knows, shape_of, is_in, may_be_asked_for, wanted}
 use Rattle.repo_plan.proofs.Counted.{none_unknown, none_done, one_wanted, some_wanted}
 use Rattle.repo_plan.proofs.plan.Plan.wanted_in.Goals as goal
 use Rattle.repo_plan.proofs.plan.Plan.wanted_in.Goals.{then-not-is_known-via-then-not-is_known}
@@ -40,7 +40,7 @@ overflow_sub-result c =
     let all = some_wanted c.self.inside c.self.invariant pair known (sym c.contains.ensures ∙ c.if-contains.false) n
     some in
     let listed =
-    ap (λ (p : PlanState). how_many (λ x. is_asked p (part_of pair x)) 0 (parts_after n + 1)) c.self.view_is in
+    ap (λ (p : PlanState). how_many (λ x. may_be_asked_for p (part_of pair x)) 0 (last_part n + 1)) c.self.view_is in
     let held = ap (λ (p : PlanState). length (filter (is_in pair) p.held)) c.self.view_is in
     omega (arith, all, listed, held, c.listed_in.ensures, c.held_in.ensures)
 
@@ -54,7 +54,7 @@ returns-in-Some c =
     let all = some_wanted c.self.inside c.self.invariant pair known (sym c.contains.ensures ∙ c.if-contains.false) n
     some in
     let listed =
-    ap (λ (p : PlanState). how_many (λ x. is_asked p (part_of pair x)) 0 (parts_after n + 1)) c.self.view_is in
+    ap (λ (p : PlanState). how_many (λ x. may_be_asked_for p (part_of pair x)) 0 (last_part n + 1)) c.self.view_is in
     let held = ap (λ (p : PlanState). length (filter (is_in pair) p.held)) c.self.view_is in
     let want = ap (λ (p : PlanState). length (filter (is_in pair) (wanted p))) c.self.view_is in
     omega (arith, all, listed, held, want, c.listed_in.ensures, c.held_in.ensures)

@@ -1,7 +1,7 @@
 use Rattle.std.proofs.Common.{◌≡◌, Some, Option, sym, ap, ◌∙◌, subst, arith}
 use Rattle.std.specs.Prelude.{IfOk}
 use Rattle.repo_process.specs.Processes.{Process, block_in}
-use Rattle.repo_process.specs.Arrivals.{reported_of_block}
+use Rattle.repo_process.specs.Arrivals.{answer_of_block}
 use Rattle.repo_process.specs.Insertions.{with_arrival}
 use Rattle.repo_process.proofs.PlaceLemmas.{found, arrival_replaced, on_ok}
 use Rattle.repo_process.proofs.processes.Processes.block.Goals as goal
@@ -21,7 +21,7 @@ returns-in-Some-clause-state c =
     found m c.args.self.now c.self.invariant c.self.view_is c.args.process c.in-Some.place
     (rw c.from.ensures at c.in-Some.ensures) in
     let P : Option Process → Type 0 =
-    λ o. IfOk c.block.result (λ state. state ≡ reported_of_block (block_in c.args.index c.args.content.now o)) in
+    λ o. IfOk c.block.result (λ state. state ≡ answer_of_block (block_in c.args.index c.args.content.now o)) in
     subst P (sym (at.there c.index_mut.result.now c.index_mut.ensures.value)) c.block.ensures.state
 
 pub returns-in-Some-clause-ok : goal.returns-in-Some-clause-ok

@@ -1,7 +1,7 @@
 use Rattle.std.proofs.Common.{take, subst, sym, ap, ◌∙◌, rules}
 use Rattle.std.proofs.lemmas.List.{drop-take}
 use Rattle.std.proofs.lemmas.List.Sorted.{IsPartitionPoint-from_clause}
-use Rattle.repo_store.specs.Indexes.{AreAsked}
+use Rattle.repo_store.specs.Indexes.{AreMatches}
 use Rattle.repo_store.proofs.IndexLemmas.{IsFrom, from_place}
 use Rattle.repo_store.proofs.AskedLemmas.{test, asked_parted, asked_found}
 use Rattle.repo_store.proofs.index.Index.asked.Goals as goal
@@ -21,5 +21,5 @@ returns-clause-asked c =
     let point =
     IsPartitionPoint-from_clause (test slots held asked p) rest end c.partition_point-end.ensures.partitioned
     (asked_parted slots held asked p rest from) (λ a r f called. search rules) in
-    subst (AreAsked slots held asked p) (ap (take end) c.split_at.ensures.back ∙ sym (drop-take start end held))
+    subst (AreMatches slots held asked p) (ap (take end) c.split_at.ensures.back ∙ sym (drop-take start end held))
     (asked_found slots held asked p rest from end c.partition_point-end.ensures.bound point)

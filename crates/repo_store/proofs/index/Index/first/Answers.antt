@@ -1,7 +1,7 @@
 use Rattle.std.proofs.Common.{List, Option, subst, sym, ap, ◌∙◌}
 use Rattle.std.specs.Prelude.{slice_get}
 use Rattle.repo_store.specs.PacketTable.{Held}
-use Rattle.repo_store.specs.Indexes.{is_asked, IsFirstOf}
+use Rattle.repo_store.specs.Indexes.{name_matches, IsFirstOf}
 use Rattle.repo_store.specs.Blocks.{piece}
 use Rattle.repo_store.proofs.AskedLemmas.{least_asked, first_asked}
 use Rattle.repo_store.proofs.index.Index.first.Goals as goal
@@ -16,7 +16,7 @@ returns-then-can_be_prefix c =
 pub returns-else-can_be_prefix : goal.returns-else-can_be_prefix
 returns-else-can_be_prefix c =
     let index = c.args.self.now in
-    let test = is_asked index.kept.now.slots c.args.asked.now c.args.can_be_prefix in
+    let test = name_matches index.kept.now.slots c.args.asked.now c.args.can_be_prefix in
     let found = piece c.asked-start.result.0 c.asked-start.result.1 index.held.now in
     subst (λ (o : Option Held). IsFirstOf index.held.now test o)
     (sym (c.copied.ensures ∙ c.first.ensures.value ∙ ap (λ (xs : List Held). slice_get xs 0) c.piece.ensures))

@@ -1,13 +1,13 @@
 use Rattle.std.proofs.Common.{sym, subst}
 use Rattle.sorted_lists.specs.Members.{In}
 use Rattle.sorted_lists.proofs.Sets.{in_filter}
-use Rattle.repo_store.specs.NameLayers.{is_kept}
+use Rattle.repo_store.specs.NameLayers.{is_stored}
 use Rattle.repo_store.proofs.names.Names.drop_all.Goals as goal
 
 pub returns-then-self-len-clause-waiting : goal.returns-then-self-len-clause-waiting
 returns-then-self-len-clause-waiting c h i kept =
     subst (In h) (sym c.forget_dropped.ensures.waiting)
-    (in_filter (is_kept c.args.kept.now.held) c.drop_ordered.new.self.waiting.items h
+    (in_filter (is_stored c.args.kept.now.held) c.drop_ordered.new.self.waiting.items h
     (subst (In h) (sym c.drop_ordered.ensures.waiting) i) kept)
 
 pub returns-then-self-len-clause-room : goal.returns-then-self-len-clause-room

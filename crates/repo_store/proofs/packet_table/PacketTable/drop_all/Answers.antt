@@ -1,6 +1,6 @@
 use Rattle.std.proofs.Common.{length, subst, ap, arith}
 use Rattle.repo_store.specs.PacketTable.{PacketTableState}
-use Rattle.repo_store.specs.Slots.{KeptIsSound}
+use Rattle.repo_store.specs.Slots.{HeldIsSound}
 use Rattle.repo_store.proofs.SlotLemmas.{sound_seen}
 use Rattle.repo_store.proofs.DropLemmas.{dropping_all_none, dropping_all_more, dropping_all_end, fewer_left}
 use Rattle.repo_store.proofs.packet_table.PacketTable.drop_all.Goals as goal
@@ -38,7 +38,7 @@ returns-clause-held c =
     c.loop-pair.invariant
 
 pub returns-clause-sound : goal.returns-clause-sound
-returns-clause-sound c = subst KeptIsSound c.self.view_is (sound_seen c.self.inside c.self.invariant)
+returns-clause-sound c = subst HeldIsSound c.self.view_is (sound_seen c.self.inside c.self.invariant)
 
 pub returns-clause-few : goal.returns-clause-few
 returns-clause-few c =

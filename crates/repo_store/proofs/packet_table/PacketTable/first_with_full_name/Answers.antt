@@ -5,7 +5,7 @@ use Rattle.std.proofs.lemmas.Slice.Eq.{strip_prefix_is}
 use Rattle.repo_store.specs.declared.packet_table.Sought.{Sought}
 use Rattle.repo_store.specs.declared.packet_table.Sought.TheVariants.{FullName}
 use Rattle.repo_store.specs.PacketTable.{PacketTableState}
-use Rattle.repo_store.specs.Slots.{AreSlots, KeptIsSound, is_sought_at}
+use Rattle.repo_store.specs.Slots.{AreSlots, HeldIsSound, is_sought_at}
 use Rattle.repo_store.specs.Indexes.{IsFirstOf}
 use Rattle.repo_store.proofs.SlotLemmas.{sound_seen}
 use Rattle.repo_store.proofs.FullNameLemmas.{taken_and_rest, short_lacks, other_lacks, full_found}
@@ -17,7 +17,7 @@ returns-in_err-name-clause-found c =
     (short_lacks c.args.self.now.slots c.args.self.now.held c.args.asked.now c.in_err-name.ensures.cases)
 
 pub returns-in_err-name-clause-sound : goal.returns-in_err-name-clause-sound
-returns-in_err-name-clause-sound c = subst KeptIsSound c.self.view_is (sound_seen c.self.inside c.self.invariant)
+returns-in_err-name-clause-sound c = subst HeldIsSound c.self.view_is (sound_seen c.self.inside c.self.invariant)
 
 pub returns-in_err-digest-clause-found : goal.returns-in_err-digest-clause-found
 returns-in_err-digest-clause-found c =
@@ -32,7 +32,7 @@ returns-in_err-digest-clause-found c =
     (omega (arith, parts.2, ap length is, length-append c.in_ok-name.name.now last)) none)
 
 pub returns-in_err-digest-clause-sound : goal.returns-in_err-digest-clause-sound
-returns-in_err-digest-clause-sound c = subst KeptIsSound c.self.view_is (sound_seen c.self.inside c.self.invariant)
+returns-in_err-digest-clause-sound c = subst HeldIsSound c.self.view_is (sound_seen c.self.inside c.self.invariant)
 
 pub returns-clause-found : goal.returns-clause-found
 returns-clause-found c =
@@ -56,4 +56,4 @@ returns-clause-found c =
     c.first_of_fingerprint.ensures)
 
 pub returns-clause-sound : goal.returns-clause-sound
-returns-clause-sound c = subst KeptIsSound c.self.view_is (sound_seen c.self.inside c.self.invariant)
+returns-clause-sound c = subst HeldIsSound c.self.view_is (sound_seen c.self.inside c.self.invariant)

@@ -9,7 +9,7 @@ use Rattle.repo_store.specs.declared.packet_table.Fingerprinted.{Fingerprinted}
 use Rattle.repo_store.specs.declared.packet_table.Sought.{Sought}
 use Rattle.repo_store.specs.declared.packet_table.Sought.TheVariants.{Octets}
 use Rattle.repo_store.specs.PacketTable.{Held, PacketTableState}
-use Rattle.repo_store.specs.Slots.{AreSlots, AreFingerprints, KeepsOne, KeptIsSound, fingerprinted_cmp, is_sought_at}
+use Rattle.repo_store.specs.Slots.{AreSlots, AreFingerprints, KeepsOne, HeldIsSound, fingerprinted_cmp, is_sought_at}
 use Rattle.repo_store.specs.Indexes.{IsFirstOf}
 use Rattle.sorted_lists.proofs.Lookups.{none_where, same_with}
 use Rattle.repo_store.proofs.SlotLemmas.{sound_seen, keeps_one, slots_more, fingerprints_more}
@@ -102,6 +102,6 @@ returns c =
       keeps =
           subst (λ (s : PacketTableState). KeepsOne octets s.slots c.keep-slot.new.packets.slots slot) c.self.view_is
           keeps;
-      sound = subst KeptIsSound c.self.view_is (sound_seen k c.self.invariant);
+      sound = subst HeldIsSound c.self.view_is (sound_seen k c.self.invariant);
       spare = ap (λ (s : PacketTableState). s.spare - 1) c.self.view_is;
     }

@@ -4,7 +4,7 @@ use Rattle.sorted_lists.specs.SortedList.{Rises}
 use Rattle.sorted_lists.proofs.Sets.{rises_insert_keys}
 use Rattle.repo_plan.proofs.Orders.{exact_pairs}
 use Rattle.repo_watch.specs.Watching.{is_news}
-use Rattle.repo_watch.proofs.ReportedLemmas.{passing_rise}
+use Rattle.repo_watch.proofs.AnnouncedLemmas.{passing_rise}
 use Rattle.repo_watch.proofs.watcher.Watcher.take.Goals as goal
 
 pub add-requires-clause-pairs_rise : goal.add-requires-clause-pairs_rise
@@ -16,4 +16,4 @@ add-requires-clause-pairs_rise g c =
 pub invariant_of-self-2 : goal.invariant_of-self-2
 invariant_of-self-2 g c =
     subst (Rises pair_cmp) (sym c.in_ok-add.ensures.ok)
-    (rises_insert_keys exact_pairs c.deref.result.now c.self.inside.reported.items c.self.invariant)
+    (rises_insert_keys exact_pairs c.deref.result.now c.self.inside.announced.items c.self.invariant)

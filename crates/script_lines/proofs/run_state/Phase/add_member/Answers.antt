@@ -2,7 +2,7 @@ use Rattle.std.proofs.Common.{rules, ◌≡◌, ◌∙◌, ap, length, map, sym}
 use Rattle.repo_member.specs.Groups.{GroupKeys}
 use Rattle.script_lines.specs.declared.run_state.Phase.{Phase}
 use Rattle.script_story.specs.Mirrors.{mirror_begins}
-use Rattle.script_story.specs.Judging.{mirrors_begin, with_member_too}
+use Rattle.script_story.specs.Evaluation.{mirrors_begin, with_member_too}
 use Rattle.script_lines.specs.RunStates.{mirrors_in, phase_keys}
 use Rattle.script_lines.proofs.MirrorWorlds.{begin_again}
 use Rattle.script_lines.proofs.run_state.Phase.add_member.Goals as goal

@@ -3,7 +3,7 @@ use Rattle.std.specs.Prelude.{OnOk, IfErr}
 use Rattle.std.specs.Option.{option_map}
 use Rattle.script_lang.specs.Forms.{stated}
 use Rattle.bench_world.specs.EventValues.{event_value}
-use Rattle.script_story.specs.Judging.{Verdict, env_by, says}
+use Rattle.script_story.specs.Evaluation.{Verdict, env_by, accepted}
 use Rattle.script_lines.specs.RunStates.{IsLineError, state_of_run}
 use Rattle.script_lines.proofs.Judgings.{acts, states_some}
 use Rattle.script_lines.proofs.run_state.RunState.act.Goals as goal
@@ -16,7 +16,7 @@ unreachable-requires g c =
 pub returns-clause-taken : goal.returns-clause-taken
 returns-clause-taken g c =
     subst (λ (v : Verdict). OnOk c.carry_out.result
-    (v ≡ says c.carry_out.new.report.items (state_of_run c.carry_out.new.self)))
+    (v ≡ accepted c.carry_out.new.report.items (state_of_run c.carry_out.new.self)))
     (sym (acts (env_by (g.D.Draws.draw c.args.draws.now) (g.N.Net.passes c.args.net.now))
     (state_of_run c.args.self.now)
     c.args.self.now.words

@@ -2,7 +2,7 @@ use Rattle.std.proofs.Common.{◌∙◌, map, length, sym, ap}
 use Rattle.std.specs.String.{string_bytes}
 use Rattle.repo_member.specs.Groups.{GroupKeys}
 use Rattle.bench_world.specs.EventValues.{event_value}
-use Rattle.script_story.specs.Judging.{acted, env_by}
+use Rattle.script_story.specs.Evaluation.{acted, env_by}
 use Rattle.script_lines.specs.RunStates.{IsLineError, phase_keys, state_of_run}
 use Rattle.script_lines.proofs.MirrorLines.{stands_after}
 use Rattle.script_lang.proofs.Stops.{stops_so}

@@ -1,7 +1,7 @@
 use Rattle.std.proofs.Common.{List, length, subst}
 use Rattle.repo_watch.specs.Watching.{Watching}
 use Rattle.script_report.specs.declared.refusal.Refusal.TheVariants as refusal
-use Rattle.script_story.specs.Judging.{begun_world, watched, watchers_of}
+use Rattle.script_story.specs.Evaluation.{begun_world, watched, watchers_of}
 use Rattle.script_lines.specs.RunStates.{IsLineError, IsStopWhere, state_of_run}
 use Rattle.std.proofs.Common.{nat_le}
 use Rattle.script_lang.proofs.Stops.{stops_so}

@@ -1,5 +1,5 @@
 use Rattle.bench_world.specs.Worlds.{world_of}
-use Rattle.script_story.specs.Judging.{begun_world, mirror_heard}
+use Rattle.script_story.specs.Evaluation.{begun_world, mirror_heard}
 use Rattle.script_lines.specs.RunStates.{IsLineError, state_of_run}
 use Rattle.script_lang.proofs.Stops.{stops_so}
 use Rattle.script_lines.proofs.MirrorLines.{heard_stops}

@@ -3,7 +3,7 @@ use Rattle.std.specs.Prelude.{OnOk}
 use Rattle.std.specs.String.{string_bytes}
 use Rattle.script_lang.specs.Checking.{is_mirror}
 use Rattle.script_story.specs.StatedEvents.{mirror_number}
-use Rattle.script_story.specs.Judging.{Verdict, begun_world, env_by, says}
+use Rattle.script_story.specs.Evaluation.{Verdict, begun_world, env_by, accepted}
 use Rattle.script_lines.specs.RunStates.{MirrorIsThere, state_of_run}
 use Rattle.script_lines.proofs.MirrorLines.{fetched_checked, fetched_same}
 use Rattle.script_lines.proofs.run_state.RunState.mirror_fetch.Goals as goal
@@ -37,4 +37,4 @@ returns-clause-taken g c =
     (c.mirror-i.ensures ∙ ap (λ (l : List ℕ). mirror_number l c.args.self.now.words.mirrors) c.deref.ensures)
     c.deref-2.ensures in
     subst (λ (v : Verdict). OnOk c.fetch_at.result
-    (v ≡ says c.fetch_at.new.report.items (state_of_run c.fetch_at.new.self))) same c.fetch_at.ensures.taken
+    (v ≡ accepted c.fetch_at.new.report.items (state_of_run c.fetch_at.new.self))) same c.fetch_at.ensures.taken

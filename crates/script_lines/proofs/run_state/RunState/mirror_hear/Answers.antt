@@ -3,7 +3,7 @@ use Rattle.std.specs.Prelude.{OnOk, IfErr}
 use Rattle.std.specs.String.{string_bytes}
 use Rattle.script_lang.specs.Checking.{is_mirror}
 use Rattle.script_story.specs.StatedEvents.{mirror_number}
-use Rattle.script_story.specs.Judging.{Verdict, begun_world, says}
+use Rattle.script_story.specs.Evaluation.{Verdict, begun_world, accepted}
 use Rattle.script_lines.specs.RunStates.{IsLineError, MirrorIsThere, state_of_run}
 use Rattle.script_lines.proofs.MirrorLines.{heard_checked, heard_same}
 use Rattle.script_lines.proofs.run_state.RunState.mirror_hear.Goals as goal
@@ -29,7 +29,7 @@ returns-clause-taken g c =
     (c.mirror-i.ensures ∙ ap (λ (l : List ℕ). mirror_number l c.args.self.now.words.mirrors) c.deref.ensures)
     c.deref-2.ensures in
     subst (λ (v : Verdict). OnOk c.hear_at.result
-    (v ≡ says c.hear_at.new.report.items (state_of_run c.hear_at.new.self))) same c.hear_at.ensures.taken
+    (v ≡ accepted c.hear_at.new.report.items (state_of_run c.hear_at.new.self))) same c.hear_at.ensures.taken
 
 pub returns-clause-stopped : goal.returns-clause-stopped
 returns-clause-stopped g c =

@@ -3,7 +3,7 @@ use Rattle.std.specs.Prelude.{OnOk}
 use Rattle.std.specs.String.{string_bytes}
 use Rattle.script_lang.specs.Checking.{is_mirror}
 use Rattle.script_story.specs.StatedEvents.{mirror_number}
-use Rattle.script_story.specs.Judging.{Verdict, begun_world, says}
+use Rattle.script_story.specs.Evaluation.{Verdict, begun_world, accepted}
 use Rattle.script_lines.specs.RunStates.{MirrorIsThere, state_of_run}
 use Rattle.script_lines.proofs.MirrorLines.{listed_checked, listed_same}
 use Rattle.script_lines.proofs.run_state.RunState.mirror_list.Goals as goal
@@ -29,4 +29,4 @@ returns-clause-taken g c =
     (c.mirror-i.ensures ∙ ap (λ (l : List ℕ). mirror_number l c.args.self.now.words.mirrors) c.deref.ensures)
     c.deref-2.ensures in
     subst (λ (v : Verdict). OnOk c.list_at.result
-    (v ≡ says c.list_at.new.report.items (state_of_run c.list_at.new.self))) same c.list_at.ensures.taken
+    (v ≡ accepted c.list_at.new.report.items (state_of_run c.list_at.new.self))) same c.list_at.ensures.taken

@@ -3,7 +3,7 @@ use Rattle.std.specs.Prelude.{OnOk, IfErr}
 use Rattle.std.specs.String.{string_bytes}
 use Rattle.script_lang.specs.Checking.{has_label}
 use Rattle.script_story.specs.StatedEvents.{party_number}
-use Rattle.script_story.specs.Judging.{Verdict, begun_world, says}
+use Rattle.script_story.specs.Evaluation.{Verdict, begun_world, accepted}
 use Rattle.script_lines.specs.RunStates.{IsLineError, state_of_run}
 use Rattle.script_lines.proofs.WatchLines.{watch_checked, watched_same}
 use Rattle.script_lines.proofs.run_state.RunState.watch.Goals as goal
@@ -40,7 +40,7 @@ returns-clause-taken g c =
     (state_of_run c.args.self.now) c.args.self.now.words c.member-m.result _ c.pattern-pattern.result _
     (c.member-m.ensures
     ∙ ap (λ (l : List ℕ). party_number l c.args.self.now.words.members) c.deref.ensures) c.pattern-pattern.ensures in
-    subst (λ (v : Verdict). OnOk c.give_watcher.result (v ≡ says c.give_watcher.new.report.items
+    subst (λ (v : Verdict). OnOk c.give_watcher.result (v ≡ accepted c.give_watcher.new.report.items
     (state_of_run c.give_watcher.new.self))) same c.give_watcher.ensures.taken
 
 pub returns-clause-stopped : goal.returns-clause-stopped

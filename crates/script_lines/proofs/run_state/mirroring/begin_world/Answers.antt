@@ -1,6 +1,6 @@
 use Rattle.std.proofs.Common.{◌≡◌, List, length, ap, sym, subst, arith, rules}
 use Rattle.repo_watch.specs.declared.pattern.Pattern.{Pattern}
-use Rattle.group_model.specs.World.{World, opening_world}
+use Rattle.group_model.specs.World.{World, initial_world}
 use Rattle.bench_world.specs.Worlds.{drawing}
 use Rattle.script_lines.specs.declared.error.LineError.{LineError}
 use Rattle.script_lines.specs.declared.error.LineError.TheVariants.{NoMemory}
@@ -16,7 +16,7 @@ add_mirror-requires g c =
 pub loop-pattern-init : goal.loop-pattern-init
 loop-pattern-init g c =
     let begun : World =
-    opening_world (drawing (g.D.Draws.draw c.args.draws.now)) (length c.args.group.members.names) in
+    initial_world (drawing (g.D.Draws.draw c.args.draws.now)) (length c.args.group.members.names) in
     let all : c.into_iter-pattern-iterator.result.rest.items ≡ c.args.patterns.items = search rules in
     subst (λ (rest : List Pattern). HasBegun c.args.group begun c.args.patterns.items rest c.in_ok-world.world)
     (sym all) (begun_none c.args.group begun c.args.patterns.items c.in_ok-world.world c.in_ok-world.ensures.world
@@ -25,7 +25,7 @@ loop-pattern-init g c =
 pub loop-pattern-preserved : goal.loop-pattern-preserved
 loop-pattern-preserved g c =
     begun_more c.args.group
-    (opening_world (drawing (g.D.Draws.draw c.args.draws.now)) (length c.args.group.members.names))
+    (initial_world (drawing (g.D.Draws.draw c.args.draws.now)) (length c.args.group.members.names))
     c.args.patterns.items c.loop-pattern.world c.add_mirror.new.world c.in-Some.pattern
     c.loop-pattern.pattern-iterator.rest.items c.next.new.self.rest.items c.loop-pattern.invariant
     c.in-Some.ensures.steps.0 c.in_ok-add_mirror.ensures.same c.in_ok-add_mirror.ensures.mirrors

@@ -17,7 +17,7 @@ returns-clause-mirrors g c =
     let w : World = world_of c.args.world.now in
     let m : MirrorState = mirror_at old c.args.i in
     let consistent : IsConsistentMirror c.args.world.now.keys (logs w) m =
-    c.is_sound.ensures.consistent.mirrors c.args.i no_mirror c.requires.there in
+    c.cite_soundness.ensures.consistent.mirrors c.args.i no_mirror c.requires.there in
     set_as old c.mirror_fetch.new.self.mirrors c.args.i (mirror_at c.mirror_fetch.new.self.mirrors c.args.i)
     (mirror_fetches (g.N.Net.passes c.args.net.now) w c.args.i c.args.tries c.args.loss
     (mirror_of (map mirror_as old) c.args.i))
@@ -37,7 +37,7 @@ returns-clause-report g c =
     let m : MirrorState = mirror_at old c.args.i in
     let new : MirrorState = mirror_at c.mirror_fetch.new.self.mirrors c.args.i in
     let consistent : IsConsistentMirror c.args.world.now.keys (logs w) m =
-    c.is_sound.ensures.consistent.mirrors c.args.i no_mirror c.requires.there in
+    c.cite_soundness.ensures.consistent.mirrors c.args.i no_mirror c.requires.there in
     let here : mirror_as m ≡ mirror_of (map mirror_as old) c.args.i = sym (at_as old c.args.i c.requires.there) in
     let planned : c.in_ok-planned.planned ≡ length (asked_by w (mirror_of (map mirror_as old) c.args.i)) =
     c.in_ok-planned.ensures.planned ∙ ap (λ (ts : List Part). length ts)

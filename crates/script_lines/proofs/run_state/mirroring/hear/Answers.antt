@@ -10,8 +10,8 @@ use Rattle.script_lines.proofs.run_state.mirroring.hear.Goals as goal
 pub returns-clause-mirrors : goal.returns-clause-mirrors
 returns-clause-mirrors c =
     let old : List MirrorState = c.args.world.now.mirrors in
-    let reported : List ℕ = (sent_at (world_of c.args.world.now) c.args.k).vector in
-    set_as old c.mirror_learns.new.self.mirrors c.args.i (mirror_learns reported (mirror_at old c.args.i))
-    (mirror_hears reported (mirror_of (map mirror_as old) c.args.i))
+    let printed : List ℕ = (sent_at (world_of c.args.world.now) c.args.k).vector in
+    set_as old c.mirror_learns.new.self.mirrors c.args.i (mirror_learns printed (mirror_at old c.args.i))
+    (mirror_hears printed (mirror_of (map mirror_as old) c.args.i))
     (ap (λ (s : GroupState). s.mirrors) c.in_ok-mirror_learns.ensures.ok)
-    (ap (mirror_hears reported) (sym (at_as old c.args.i c.requires.there)))
+    (ap (mirror_hears printed) (sym (at_as old c.args.i c.requires.there)))

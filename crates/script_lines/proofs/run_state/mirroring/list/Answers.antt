@@ -2,7 +2,7 @@ use Rattle.std.proofs.Common.{◌∙◌, ◌++◌, ℕ, List, ap, map, sym}
 use Rattle.std.specs.String.{string_bytes}
 use Rattle.bench_world.specs.Worlds.{world_of}
 use Rattle.script_story.specs.Mirrors.{mirrored_entries}
-use Rattle.script_story.specs.ReportedTexts.{listing_text}
+use Rattle.script_story.specs.ReportTexts.{listing_text}
 use Rattle.script_lines.proofs.MirrorWorlds.{at_as}
 use Rattle.script_lines.proofs.run_state.mirroring.list.Goals as goal
 

@@ -9,5 +9,5 @@ pub returns-clause-mirrors : goal.returns-clause-mirrors
 returns-clause-mirrors g c =
     all_as c.args.world.now.mirrors c.settle_mirrors.new.self.mirrors (mirror_settles (world_of c.args.world.now))
     c.settle_mirrors.ensures.len (λ i there.
-    settled_as (world_of c.args.world.now) c.is_sound.ensures.sound (mirror_at c.args.world.now.mirrors i)
+    settled_as (world_of c.args.world.now) c.cite_soundness.ensures.sound (mirror_at c.args.world.now.mirrors i)
     (mirror_at c.settle_mirrors.new.self.mirrors i) (c.in_ok-settle_mirrors.ensures.settled i there))

@@ -4,7 +4,7 @@ use Rattle.repo_catalog.specs.declared.entry.Entry.{Entry}
 use Rattle.repo_watch.specs.Watching.{Watching, watch_of}
 use Rattle.group_model.specs.World.{catalogue_at}
 use Rattle.bench_world.specs.Worlds.{world_of}
-use Rattle.script_story.specs.ReportedTexts.{news_in, news_text}
+use Rattle.script_story.specs.ReportTexts.{news_in, news_text}
 use Rattle.script_lines.proofs.WatchLines.{all_there, copies_are, publishers_are, same_at}
 use Rattle.script_lines.proofs.run_state.watching.tell_news.Goals as goal
 
@@ -20,7 +20,7 @@ put_news-requires-clause-publishers c =
     let o = watch_of c.args.number (get_or c.args.watchers.now c.args.m c.index-watchers-m.result) in
     let are = c.catalogue-catalogue.ensures ∙ c.member.ensures.catalogue in
     publishers_are c.args.world.now c.args.m c.catalogue-catalogue.result.now.entries are (length c.args.labels.now) o
-    c.deref-2.result.now c.is_sound.ensures.names c.is_sound.ensures.sound c.requires.labels
+    c.deref-2.result.now c.cite_soundness.ensures.names c.cite_soundness.ensures.sound c.requires.labels
     (omega (arith, c.requires.there, c.requires.each))
     (c.deref-2.ensures.value ∙ copies_are c.args.world.now c.args.m c.catalogue-catalogue.result.now.entries are o
     c.in_ok-entries.entries.items c.deref.result.now (c.deref.ensures.value ∙ c.in_ok-pairs.ensures.news)

@@ -6,7 +6,7 @@ use Rattle.std.proofs.lemmas.List.Edits.{length-insert}
 use Rattle.std.proofs.lemmas.List.Elements.{All-take}
 use Rattle.std.proofs.Math.Numerals.{add-one}
 use Rattle.sorted_lists.specs.SortedList.{keys, Rises, with_value}
-use Rattle.sorted_lists.specs.BlockMap.{joined, room, AreBlocks, IsBlank, IsOpen, IsKept, half, full, entries}
+use Rattle.sorted_lists.specs.BlockMap.{joined, room, AreBlocks, IsBlank, IsOpen, StaysInSplit, half, full, entries}
 use Rattle.sorted_lists.proofs.MapChanges.{rises_with}
 use Rattle.sorted_lists.proofs.Blocks.{block_rises, block_at, with_place, with_some, with_more}
 use Rattle.sorted_lists.proofs.Rooms.{has_block}
@@ -112,7 +112,7 @@ returns-then-len-lt-FULL-clause-room g c =
 -- ---- the block is split
 
 -- half of the entries stay at least, and one goes
-kept_bounds : (blocks place n : ℕ) → IsKept blocks place n → (half ≤ n) × (n < full)
+kept_bounds : (blocks place n : ℕ) → StaysInSplit blocks place n → (half ≤ n) × (n < full)
 kept_bounds blocks place n (inl h) = (omega (arith, h), omega (arith, h))
 kept_bounds blocks place n (inr h) = (omega (arith, h.0), omega (arith, h.0))
 
@@ -331,9 +331,9 @@ returns-clause-room g c =
     ) in
     let blocks_now : length c.deref.result.now ≡ length blocks =
     ap length c.deref.ensures.value ∙ length-set blocks place new in
-    let kept : IsKept (length blocks) place (length prefix.items) =
-    subst (λ n. IsKept (length blocks) place n) (sym c.split.ensures.len)
-    (subst (λ n. IsKept n place c.kept_of-kept.result) blocks_now c.kept_of-kept.ensures) in
+    let kept : StaysInSplit (length blocks) place (length prefix.items) =
+    subst (λ n. StaysInSplit (length blocks) place n) (sym c.split.ensures.len)
+    (subst (λ n. StaysInSplit n place c.kept_of-kept.result) blocks_now c.kept_of-kept.ensures) in
     let items = rw (c.unwrap.ensures, add-one, set_again) at c.insert-2.ensures.items in
     omega (
       arith,

@@ -1,7 +1,7 @@
 use Rattle.std.proofs.Common.{arith, ◌≡◌, ap, sym, subst, ◌∙◌, not, length, ◌++◌, take, drop}
 use Rattle.std.proofs.lemmas.Grind.{common_steps}
 use Rattle.svs_vector.specs.Vectors.{AreNumbers, join, covers}
-use Rattle.svs_vector.proofs.JoinLemmas.{reported_of_changes, length-join}
+use Rattle.svs_vector.proofs.JoinLemmas.{received_of_changes, length-join}
 use Rattle.svs_vector.proofs.NumberLemmas.{join_numbers}
 use Rattle.svs_vector.proofs.vector.Vector.join.Goals as goal
 
@@ -11,9 +11,9 @@ returns-clause-changed c =
     (c.take_greater.new.numbers ++ drop (length c.take_greater.new.numbers) c.self.inside.numbers.items)
     ≡ join c.args.self.now c.args.other.now =
     grind (arith, common_steps) in
-    let reported : c.take_greater.result ≡ not (covers c.args.self.now c.args.other.now) = grind
+    let received : c.take_greater.result ≡ not (covers c.args.self.now c.args.other.now) = grind
     (arith, common_steps) in
-    reported_of_changes _ _ _ _ reported joined
+    received_of_changes _ _ _ _ received joined
 
 pub returns-clause-width : goal.returns-clause-width
 returns-clause-width c =

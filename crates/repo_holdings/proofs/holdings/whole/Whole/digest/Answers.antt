@@ -45,8 +45,8 @@ returns-clause-digest c =
     (all_pieces c.loop-content.content-index c.deref-content-items.result.now c.args.self.now.contents.items
     c.loop-content-test.false c.deref-content-items.ensures.value)
 
-pub returns-clause-reported : goal.returns-clause-reported
-returns-clause-reported c = λ packets whole.
+pub returns-clause-made : goal.returns-clause-made
+returns-clause-made c = λ packets whole.
     let prefix : List ℕ = joined (take c.loop-content.content-index c.deref-content-items.result.now) in
     let all : prefix ≡ joined c.args.self.now.contents.items =
     all_pieces c.loop-content.content-index c.deref-content-items.result.now c.args.self.now.contents.items

@@ -1,0 +1,11 @@
+use Rattle.std.proofs.Common.{refl, subst}
+use Rattle.repo_plan.specs.Sound.{PlanIsSound}
+use Rattle.repo_plan.proofs.Changes.{sound_as}
+use Rattle.repo_holdings.specs.HoldingsState.{HoldingsState, held_plan}
+use Rattle.repo_holdings.proofs.holdings.Holdings.cite_soundness.Goals as goal
+
+pub returns : goal.returns
+returns c =
+    subst (λ (h : HoldingsState). PlanIsSound (held_plan h)) c.self.view_is
+    (sound_as c.self.inside.plan _ refl c.self.invariant.kept.tied.held c.self.invariant.kept.tied.shapes refl refl refl
+    c.cite_soundness.ensures)

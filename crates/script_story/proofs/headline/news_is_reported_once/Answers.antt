@@ -1,5 +1,0 @@
-use Rattle.script_story.proofs.HeadlineWatchers.{news_is_reported_once}
-use Rattle.script_story.proofs.headline.news_is_reported_once.Goals as goal
-
-pub returns : goal.returns
-returns c = news_is_reported_once
