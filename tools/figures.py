@@ -16,7 +16,6 @@ is 1 where a table wasn't made.
     instructions   what publishing, settling, fetching and deleting take
     crates         in which crates the instructions of a generated script are
     products       lines that grow by a product, and for each of what       (docs/HOSTILE.md)
-    refusals       requests that are refused in turn, by refuse_memory.py   (docs/HOSTILE.md)
     random         scripts drawn at random, by fuzz.py                      (docs/HOSTILE.md)
     costs          the costliest script of each kind of line, by costs.py
     live           runs of a live group, by stress_live.py
@@ -41,8 +40,6 @@ import packets
 
 TOP = measured.TOP
 TABLES = {}
-# The scripts that refuse_memory.py takes, as its rows and the columns of the table name them.
-REFUSED = {"one_object": "one object", "claims": "by hand", "insertion": "insertion", "every_line": "every line"}
 
 
 def table(*heads):
@@ -196,30 +193,6 @@ def products(given):
         "part that 15 members and 4 mirrors want and nobody has, at each line, for all of them together"
 
 
-@table("refused", *REFUSED.values(), "exit status of these runs", "of them wrong")
-def refusals(given):
-    ran = subprocess.run([sys.executable, TOP / "tools/refuse_memory.py", "--program", given.program],
-                         capture_output=True, text=True)
-    print(ran.stderr, end="", file=sys.stderr)
-    said = {}
-    for line in ran.stdout.splitlines():
-        found = re.match(r"(\w+) +(\w+) +(\d+) requests, (\d+) refused in turn: (.*); (\d+) wrong", line)
-        if found:
-            kind, name, _, refused, ends, wrong = found.groups()
-            said.setdefault(kind, {})[name] = int(refused), ends, int(wrong)
-    for kind, what in [("memory", "memory, once"), ("shortage", "memory, from there on"), ("threads", "a thread, once"),
-                       ("reads", "reads from there on, by pieces of 20 octets"),
-                       ("writes", "writes from there on, by pieces of 8 octets"),
-                       ("signals", "one read or write, by a signal")]:
-        of = [said[kind][name] for name in REFUSED]
-        ends = {}
-        for _, told, _ in of:
-            for count, status in re.findall(r"(\d+) ended with (-?\d+)", told):
-                ends[status] = ends.get(status, 0) + int(count)
-        yield (what, *(f"{it[0]:,}" for it in of), ", ".join(f"{n:,} with {end}" for end, n in sorted(ends.items())),
-               str(sum(it[2] for it in of)))
-
-
 @table("drawn by", "how many", "differ", "exit status, and how many")
 def random(given):
     for words in (["--seed", "1", "--count", "100"], ["--inspect", "--seed", "1", "--count", "300"]):
@@ -262,7 +235,7 @@ def live(given):
 
 for given_name, name in (("scripts", "scripts_table"), ("costs", "costs_table")):
     TABLES[given_name] = TABLES.pop(name)
-ORDER = ["machine", "scripts", "crates", "products", "settles", "instructions", "costs", "random", "refusals", "live"]
+ORDER = ["machine", "scripts", "crates", "products", "settles", "instructions", "costs", "random", "live"]
 COUNTED = {"instructions", "crates", "products"}
 
 

@@ -1,7 +1,7 @@
 #!/usr/bin/env python3
 """Refuses a program's requests in turn, and sees that it says so and that nothing else happens.
 
-    python3 tools/refuse_memory.py [--program FILE] [--calls KIND ..] [SCRIPT ..]
+    python3 tools/refuse_memory.py [--program FILE] [--calls KIND ..] [--quiet] [SCRIPT ..]
 
 Runs `ndnrepo run` on each script with the first request of a kind refused, then with the second alone, and so on up
 to the run that makes no more. The kinds, all of them unless some are named:
@@ -17,14 +17,16 @@ to the run that makes no more. The kinds, all of them unless some are named:
               has written a prefix of the report, and not all.
     signals   a signal interrupts one read or write, which is made again. The run ends as without it.
 
-Without scripts it takes three short ones and tools/every_line.script, which has every kind of line. A row tells of
-each kind and script how many requests there were, how many were refused, and how those runs ended; the status of this
-program is 1 where one of them ended otherwise. It wants Linux, a C compiler (`cc`), and a program that was built (`cd
-crates/ndnrepo && rt run`). All takes about ten seconds on one processor.
+Without scripts it takes three short ones and tools/every_line.script, which has every kind of line. Of each kind and
+script it prints how many requests there were, how many were refused, and how those runs ended; with --quiet only the
+runs that ended otherwise, and how many there were in all. The exit status is 1 where there is such a run, and 3 where
+there is no C compiler (`cc`). It needs Linux, and a program that was built (`cd crates/ndnrepo && rt run`). All takes
+about ten seconds on one processor.
 """
 import argparse
 import itertools
 import pathlib
+import shutil
 import struct
 import subprocess
 import sys
@@ -32,6 +34,7 @@ import tempfile
 
 TOP = pathlib.Path(__file__).resolve().parent.parent
 READ_FAULT, WRITE_FAULT, NO_MEMORY = 3, 4, 5
+NO_COMPILER = 3
 
 TWO = """\
 group /g
@@ -158,8 +161,8 @@ PIECES = {"reads": 20, "writes": 8, "signals": 64}
 class Trial:
     """A program, the shim before it, and a file in which the shim counts."""
 
-    def __init__(self, program, room):
-        self.program = str(program)
+    def __init__(self, program, room, quiet):
+        self.program, self.quiet, self.refused = str(program), quiet, 0
         self.shim, self.counts = room / "refuse.so", room / "counts"
         (room / "refuse.c").write_text(SHIM)
         subprocess.run(["cc", "-O1", "-shared", "-fPIC", "-o", self.shim, room / "refuse.c", "-ldl"], check=True)
@@ -205,16 +208,20 @@ class Trial:
                 wrong += 1
                 print(f"{kind} {name}: without request {refused} it ended with {said} and wrote {len(wrote)} octets",
                       flush=True)
-        told = ", ".join(f"{count} ended with {end}" for end, count in sorted(ends.items()))
-        print(f"{kind:8} {name:12} {made} requests, {sum(ends.values())} refused in turn: {told or 'none'}; "
-              f"{wrong} wrong", flush=True)
+        self.refused += sum(ends.values())
+        if not self.quiet:
+            how = ", ".join(f"{count} ended with {end}" for end, count in sorted(ends.items()))
+            print(f"{kind:8} {name:12} {made} requests, {sum(ends.values())} refused in turn: {how or 'none'}; "
+                  f"{wrong} wrong", flush=True)
         return wrong
 
     def refuse_all_threads(self, name, script):
         said, wrote, made = self.run("threads", script, 1, [("ALL", "1")])
         is_well = (said, wrote) == self.plain(script)
-        print(f"{'threads':8} {name:12} {made} requests, all refused in one run: ended with {said}; "
-              f"{int(not is_well)} wrong", flush=True)
+        self.refused += made
+        if not self.quiet or not is_well:
+            print(f"{'threads':8} {name:12} {made} requests, all refused in one run: ended with {said}; "
+                  f"{int(not is_well)} wrong", flush=True)
         return int(not is_well)
 
 
@@ -223,20 +230,27 @@ def main():
     asked.add_argument("--program", default=TOP / "crates/ndnrepo/out/ndnrepo")
     kinds = ["memory", "shortage", "threads", "reads", "writes", "signals"]
     asked.add_argument("--calls", action="append", choices=kinds, help="what is refused")
+    asked.add_argument("--quiet", action="store_true", help="print only what is wrong, and one line at the end")
     asked.add_argument("scripts", nargs="*", type=pathlib.Path)
     given = asked.parse_args()
+    if not shutil.which("cc"):
+        print("refuse_memory.py: there is no C compiler (cc)", file=sys.stderr)
+        sys.exit(NO_COMPILER)
     scripts = {it.stem: it.read_bytes() for it in given.scripts}
     if not scripts:
         scripts = {"one_object": ONE_OBJECT.encode(), "claims": CLAIMS.encode(), "insertion": INSERTION.encode(),
                    "every_line": (TOP / "tools/every_line.script").read_bytes()}
     wrong = 0
     with tempfile.TemporaryDirectory() as room:
-        trial = Trial(given.program, pathlib.Path(room))
+        trial = Trial(given.program, pathlib.Path(room), given.quiet)
         for kind in given.calls or kinds:
             for name, script in scripts.items():
                 wrong += trial.refuse_each(kind, name, script)
                 if kind == "threads":
                     wrong += trial.refuse_all_threads(name, script)
+    print(f"refuse_memory.py: {trial.refused} requests refused, {wrong} runs ended otherwise than they must", flush=True)
+    if not trial.refused and not given.calls:
+        sys.exit("refuse_memory.py: the program made no request that can be refused")
     sys.exit(1 if wrong else 0)
 
 
