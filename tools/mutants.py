@@ -202,7 +202,7 @@ def without_bodies(path, text, functions):
 
 def put_back(room, crate):
     """Gives a crate of the copy the texts that it has in the repository."""
-    for part in ("src", "proofs", "c"):
+    for part in ("src", "specs", "proofs", "c"):
         shutil.rmtree(f"{room}/crates/{crate}/{part}", ignore_errors=True)
         if os.path.isdir(f"{ROOT}/crates/{crate}/{part}"):
             shutil.copytree(f"{ROOT}/crates/{crate}/{part}", f"{room}/crates/{crate}/{part}")

@@ -1,3 +1,4 @@
+mod Arrivals
 mod AskedNames
 mod Captured
 mod HeldLists
@@ -6,5 +7,6 @@ mod Mirrors
 mod PrintedAnswers
 mod Records
 mod Reports
+mod SentSyncs
 mod Texts
 mod Worlds

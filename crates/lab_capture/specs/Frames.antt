@@ -367,14 +367,17 @@ abbrev pub gains : GroupKeys → World → Known → List Framed
 gains g w known =
     claim_frames g w known.claim ++ (fetch_frames g w known.fetch ++ flat_map (new_parts g w) known.holders)
 
+-- What came in a line, after which the world is this: to members, and then to mirrors.
+abbrev pub arrivals : State → Known → World → List Framed
+arrivals s known w = gains s.keys w known ++ flat_map (mirror_parts s.keys w s.mirrors) known.mirrors
+
 -- The frames of a line, after which the world is this: of what it says itself, then the sync Interests that were sent,
--- then what came to members, and to mirrors.
+-- then what came.
 abbrev pub frames_of : State → Known → List ℕ → Option World → List Framed
 frames_of s known line None = []
 frames_of s known line (Some w) =
     said s.declared s.keys w (length s.mirrors) (stated_in line)
-    ++ (new_syncs s.keys w known.sent
-    ++ (gains s.keys w known ++ flat_map (mirror_parts s.keys w s.mirrors) known.mirrors))
+    ++ (new_syncs s.keys w known.sent ++ arrivals s known w)
 
 -- The frames of a line that was taken, of which this was known before it.
 abbrev pub line_frames : State → Known → List ℕ → List Framed

@@ -6,3 +6,4 @@ pub mod Answers
 pub mod Replies
 pub mod CaptureForm
 pub mod Capturings
+pub mod Laws

@@ -23,7 +23,9 @@ mod writing;
 pub use capturing::capture;
 pub use fault::CaptureFault;
 pub use frame::Frame;
-pub use laws::{answers_are_read_in_reports, captures_are_read_back};
+pub use laws::{
+    answers_are_read_in_reports, arrivals_are_held, captures_are_read_back, sync_frames_were_sent,
+};
 pub use reading::read_capture;
 pub use station::Station;
 pub use writing::{put_capture_head, put_frame};
