@@ -1,6 +1,6 @@
 ghost use Rattle.std.specs.Prelude.{◌≡◌, ◌≤◌, ◌+◌, ◌++◌, length, take, OnErr, OnOk};
-ghost use Rattle.lab_capture.specs.Captures.{IsStation, address, capture_head, frame_head_octets, frame_octets};
-ghost use Rattle.lab_capture.specs.Captures.{frame_record, framed, number_octets, snap_octets};
+ghost use Rattle.lab_capture.specs.Captures.{IsFrame, IsStation, address, capture_head, frame_head_octets};
+ghost use Rattle.lab_capture.specs.Captures.{frame_octets, frame_record, framed, number_octets, snap_octets};
 
 use crate::frame::Frame;
 use crate::station::{Station, address};
@@ -31,9 +31,7 @@ pub fn put_capture_head(out: &mut Vec<u8>) -> Result<(), AllocError>
 
 /// Appends the record of a frame. Where memory runs out nothing changes.
 pub fn put_frame(out: &mut Vec<u8>, frame: &Frame<'_>) -> Result<(), AllocError>
-    requires source { IsStation frame.now.source }
-    requires destination { IsStation frame.now.destination }
-    requires short { frame_head_octets + length frame.now.packet.now ≤ snap_octets }
+    requires { IsFrame (framed frame.now) }
     ensures ok { OnOk result (out.new.items ≡ out.old.items ++ frame_record (framed frame.now)) }
     ensures err { OnErr result (out.new.items ≡ out.old.items) }
 {
@@ -47,9 +45,7 @@ pub fn put_frame(out: &mut Vec<u8>, frame: &Frame<'_>) -> Result<(), AllocError>
 
 // The same, where memory may run out after a part of it.
 fn write_frame(out: &mut Vec<u8>, frame: &Frame<'_>) -> Result<(), AllocError>
-    requires source { IsStation frame.now.source }
-    requires destination { IsStation frame.now.destination }
-    requires short { frame_head_octets + length frame.now.packet.now ≤ snap_octets }
+    requires { IsFrame (framed frame.now) }
     ensures ok { OnOk result (out.new.items ≡ out.old.items ++ frame_record (framed frame.now)) }
     ensures kept { take (length out.old.items) out.new.items ≡ out.old.items }
 {
