@@ -1,10 +1,8 @@
-ghost use Rattle.std.specs.Prelude.{◌≡◌, ◌+◌, ◌<◌, ◌==◌, false, true, not, length, is_some, IfSome, IfOk, OnOk, OnErr};
-ghost use Rattle.repo_plan.specs.Plan.{initial_plan, holds, hides, may_be_asked_for, is_claimed, claims_part_in};
-ghost use Rattle.repo_plan.specs.Plan.{shape_of};
-ghost use Rattle.repo_plan.specs.Plan.{attempts_of, is_complete, run_ends, raises, after_hold, after_hide};
-ghost use Rattle.repo_plan.specs.Plan.{with_attempts};
-ghost use Rattle.repo_plan.specs.Parts.{IsShape, pair_of};
-ghost use Rattle.repo_plan.specs.Sound.{PlanIsSound};
+ghost use Rattle.std.specs.Prelude.{◌≡◌, ◌+◌, ◌<◌, ◌==◌, false, not, length, is_some, IfSome, IfOk, OnOk, OnErr};
+ghost use Rattle.repo_plan.specs.Plan.{initial_plan, holds, claims_part_in, shape_of, attempts_of, is_complete};
+ghost use Rattle.repo_plan.specs.Plan.{run_ends, raises, after_hold, after_hide, with_attempts};
+ghost use Rattle.repo_plan.specs.Parts.{IsShape};
+ghost use Rattle.repo_plan.specs.Sound.{PlanIsSound, CanBeHeld};
 
 mod claims;
 mod counts;
@@ -111,9 +109,7 @@ impl Plan {
     pub fn hold(&mut self, part: Part, shape: Option<Shape>) -> Result<bool, AllocError>
         requires shape { is_some shape ≡ (part.part == 0) }
         requires sized { IfSome shape IsShape }
-        requires asked { may_be_asked_for self.old part ≡ true }
-        requires not_hidden { hides self.old (pair_of part) ≡ false }
-        requires not_claimed { is_claimed self.old part ≡ false }
+        requires free { CanBeHeld self.old part }
         ensures fresh { IfOk result (λ fresh. fresh ≡ not (holds self.old part)) }
         ensures ok { OnOk result (self.new ≡ after_hold part shape self.old) }
         ensures err { OnErr result (self.new ≡ self.old) }

@@ -1,7 +1,8 @@
-ghost use Rattle.std.specs.Prelude.{◌≡◌, ◌+◌, ◌<◌, ◌==◌, true, false, not, is_some, IfSome, OnOk, OnErr};
-ghost use Rattle.repo_plan.specs.Plan.{holds, hides, may_be_asked_for, is_claimed, claims_part_in, attempts_of};
-ghost use Rattle.repo_plan.specs.Plan.{after_hold, after_hide, with_attempts, with_room, uses_room};
-ghost use Rattle.repo_plan.specs.Parts.{IsShape, pair_of};
+ghost use Rattle.std.specs.Prelude.{◌≡◌, ◌+◌, ◌<◌, ◌==◌, false, not, is_some, IfSome, OnOk, OnErr};
+ghost use Rattle.repo_plan.specs.Plan.{holds, claims_part_in, attempts_of, after_hold, after_hide, with_attempts};
+ghost use Rattle.repo_plan.specs.Plan.{with_room, uses_room};
+ghost use Rattle.repo_plan.specs.Parts.{IsShape};
+ghost use Rattle.repo_plan.specs.Sound.{CanBeHeld};
 
 use super::Plan;
 use super::whole::{note_held, note_shape};
@@ -47,9 +48,7 @@ impl Plan {
         requires spare { 0 < self.old.spare }
         requires shape { is_some shape ≡ (part.part == 0) }
         requires sized { IfSome shape IsShape }
-        requires asked { may_be_asked_for self.old part ≡ true }
-        requires not_hidden { hides self.old (pair_of part) ≡ false }
-        requires not_claimed { is_claimed self.old part ≡ false }
+        requires free { CanBeHeld self.old part }
         ensures fresh { result ≡ not (holds self.old part) }
         ensures new { self.new ≡ uses_room (after_hold part shape self.old) }
     {
