@@ -1,9 +1,8 @@
-ghost use Rattle.std.specs.Prelude.{◌≡◌, ◌≤◌, ◌<◌, ◌+◌, ◌||◌, ◌&&◌, true};
-ghost use Rattle.std.specs.Ordering.{nat_cmp, eq_by_cmp};
+ghost use Rattle.std.specs.Prelude.{◌≡◌, ◌≤◌, ◌<◌, ◌+◌};
+ghost use Rattle.std.specs.Ordering.{nat_cmp};
 ghost use Rattle.repo_plan.specs.Plan.{with_shape};
-ghost use Rattle.repo_plan.specs.Parts.{Pair, pair_cmp};
-ghost use Rattle.sorted_lists.specs.Runs.{Number, IsRuns, has_number, number_cmp};
-ghost use Rattle.repo_plan.specs.PlanFields.{is_noted, are_noted};
+ghost use Rattle.sorted_lists.specs.Runs.{IsRuns};
+ghost use Rattle.repo_plan.specs.PlanFields.{PartIsNoted};
 
 use crate::shape::Shape;
 use sorted_lists::{Runs, SortedMap};
@@ -36,13 +35,7 @@ pub(super) fn note_held(
     requires spare_of_done { 0 < done.old.spare }
     requires spare_of_held { 0 < held.old.spare }
     ensures done { IsRuns nat_cmp done.new.runs }
-    ensures noted { (q : Number Pair) → (q.0 ≡ number.0 → q.1 ≤ last_number) → is_noted done.new.runs held.new.runs q
-        ≡ (eq_by_cmp (number_cmp pair_cmp) q number || is_noted done.old.runs held.old.runs q) }
-    ensures whole { (q : Pair) → has_number nat_cmp done.new q
-        ≡ ((eq_by_cmp pair_cmp q number.0 && are_noted done.new.runs held.new.runs number.0 last_number)
-        || has_number nat_cmp done.old q) }
-    ensures kept { (q : Number Pair) → has_number pair_cmp held.new q ≡ true
-        → (eq_by_cmp (number_cmp pair_cmp) q number || has_number pair_cmp held.old q) ≡ true }
+    ensures noted { PartIsNoted number last_number done.old done.new held.old held.new }
     ensures spare_of_done { done.old.spare ≤ done.new.spare + 1 }
     ensures spare_of_held { held.old.spare ≤ held.new.spare + 1 }
 {
