@@ -15,5 +15,5 @@ pub use laws::{
     wanted_parts_are_listed,
 };
 pub use part::Part;
-pub use plan::{FetcherBusy, FetcherIdle, HasParts, Plan};
+pub use plan::{FetcherBusy, FetcherIdle, HasParts, Plan, least_of_some};
 pub use shape::Shape;

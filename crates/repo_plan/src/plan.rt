@@ -14,7 +14,7 @@ mod whole;
 use crate::part::Part;
 use crate::shape::Shape;
 pub use claims::{FetcherBusy, FetcherIdle};
-pub use leaps::HasParts;
+pub use leaps::{HasParts, least_of_some};
 use sorted_lists::{Runs, SortedMap, table};
 use std::alloc::{AllocError, Global};
 use std::collections::HashMap;

@@ -177,8 +177,10 @@ impl Plan {
     }
 }
 
-// The least part that one of these holds and that is not below this one. The first that holds this one ends the search.
-fn least_of_some<H: HasParts>(others: &[H], part: Part) -> Option<Part>
+/// The least part that one of these holds and that is not below this one.
+///
+/// For a value that has the parts of several others. The first that holds this one ends the search.
+pub fn least_of_some<H: HasParts>(others: &[H], part: Part) -> Option<Part>
     ensures { IsLeastFrom (some_holds H.has others.now) part result }
 {
     let mut least = None;
