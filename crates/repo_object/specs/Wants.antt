@@ -1,7 +1,6 @@
 -- Parts that are wanted, and the Interests that ask for them.
-use Rattle.std.specs.Prelude.{◌≡◌, ◌≤◌, ℕ, ◌+◌, ◌-◌, ◌*◌, false, min, IfSome, List, [], ◌++◌, length, drop, take}
-use Rattle.std.specs.Prelude.{Option, Some}
-use Rattle.std.specs.Prelude.{None, slice_get, Bool, if◌then◌else◌}
+use Rattle.std.specs.Prelude.{◌≡◌, ◌≤◌, ◌<◌, ℕ, ◌+◌, ◌-◌, ◌*◌, false, min, IfSome, IsTrue, List, [], ◌++◌, length}
+use Rattle.std.specs.Prelude.{drop, take, Option, Some, None, slice_get, Bool, if◌then◌else◌}
 use Rattle.ndn_tlv.specs.Types as types
 use Rattle.ndn_tlv.specs.Spelling.{head, element}
 use Rattle.ndn_name.specs.Names.{Component, IsName, encoding, components, full_name}
@@ -11,7 +10,7 @@ use Rattle.repo_plan.specs.declared.shape.Shape.{Shape}
 use Rattle.repo_plan.specs.Parts.{most_listed}
 use Rattle.repo_object.specs.NameParts.{IsSpelled}
 use Rattle.repo_object.specs.Objects.{record_name, segment_name}
-use Rattle.repo_object.specs.Publication.{Listed}
+use Rattle.repo_object.specs.Publication.{Listed, is_indexed}
 
 -- A want as contracts see it: the part, the name, for every part but a record the digest of its packet, for an index
 -- packet the number of digests that it lists, and the octets of the Interest.
@@ -45,6 +44,12 @@ want_record part node group = wanted_part part (record_name node group part.seq)
 -- How many of so many segments index packet `k` lists, counted from 0.
 abbrev pub listed_in : ℕ → ℕ → ℕ
 listed_in segments k = min most_listed (segments - k * most_listed)
+
+-- The part is one of the index packets that the publication's record lists.
+pub record IsListedIndex (part : Part) (l : Listed) : Type 0 where
+  pub indexed : IsTrue (is_indexed l.segments)
+  pub after_record : 0 < part.part
+  pub listed : part.part ≤ length l.digests
 
 -- The want of an index packet that the publication's record lists, which is asked for by its full name.
 abbrev pub want_index : Part → Listed → List Component → List Component → WantedPart

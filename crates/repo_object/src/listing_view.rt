@@ -1,10 +1,9 @@
-ghost use Rattle.std.specs.Prelude.{◌≡◌, ◌<◌, ◌≤◌, IsTrue, IfOk, length};
+ghost use Rattle.std.specs.Prelude.{◌≡◌, ◌<◌, ◌≤◌, IfOk, length};
 ghost use Rattle.ndn_name.specs.Names.{encoding};
 ghost use Rattle.repo_plan.specs.Parts.{IsShape, shape_of_segments};
 ghost use Rattle.repo_object.specs.Limits.{node_name_limit};
-ghost use Rattle.repo_object.specs.Publication.{is_indexed};
 ghost use Rattle.repo_object.specs.Formats.{IsListing};
-ghost use Rattle.repo_object.specs.Wants.{listed_in, want_index, want_segment};
+ghost use Rattle.repo_object.specs.Wants.{listed_in, IsListedIndex, want_index, want_segment};
 
 use crate::digests_view::DigestsView;
 use crate::expected::Expected;
@@ -89,9 +88,7 @@ impl<'p> ListingView<'p> {
 
     /// What an index packet must be that the record lists, of a node of a group.
     pub fn index<'w>(&'w self, part: Part, node: &'w Name, group: &'w Name) -> Expected<'w>
-        requires indexed { IsTrue (is_indexed self.now.segments) }
-        requires index { 0 < part.part }
-        requires listed { part.part ≤ length self.now.digests }
+        requires listed { IsListedIndex part self.now }
         requires node { length (encoding node.now) ≤ node_name_limit }
         requires group { length (encoding group.now) ≤ node_name_limit }
         ensures { result ≡ want_index part self.now node.now group.now }
@@ -116,9 +113,7 @@ impl<'p> ListingView<'p> {
         node: &Name,
         group: &Name,
     ) -> Result<Want, AllocError>
-        requires indexed { IsTrue (is_indexed self.now.segments) }
-        requires index { 0 < part.part }
-        requires listed { part.part ≤ length self.now.digests }
+        requires listed { IsListedIndex part self.now }
         requires node { length (encoding node.now) ≤ node_name_limit }
         requires group { length (encoding group.now) ≤ node_name_limit }
         ensures { IfOk result (λ want. want ≡ want_index part self.now node.now group.now) }

@@ -1,4 +1,4 @@
-use Rattle.std.proofs.Common.{◌≡◌, ◌∙◌, ℕ, ◌-◌, List, Some, length, ap, arith}
+use Rattle.std.proofs.Common.{◌∙◌, ℕ, ◌-◌, List, Some, length, ap, arith}
 use Rattle.ndn_name.specs.Names.{Component}
 use Rattle.repo_object.specs.Objects.{record_name, segment_name}
 use Rattle.repo_object.specs.Wants.{wanted_part}
