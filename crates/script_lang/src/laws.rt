@@ -21,7 +21,7 @@ use crate::limits::{
     SCRIPT_LIMIT, SETTLES_LIMIT,
 };
 
-/// The limits of a script, and that a part's number is at most that of the last part of the largest publication.
+/// The limits of a script.
 pub fn limits_are_these()
     ensures octets { SCRIPT_LIMIT ≡ script_octets }
     ensures lines { LINES_LIMIT ≡ script_lines }
@@ -31,7 +31,11 @@ pub fn limits_are_these()
     ensures contents { CONTENTS_LIMIT ≡ contents_limit }
     ensures parts { PARTS_LIMIT ≡ parts_limit }
     ensures settles { SETTLES_LIMIT ≡ settles_limit }
-    ensures last_part { publication_parts segments_limit ≡ 1 + last_part }
+{}
+
+/// A part's number on a line is at most that of the last part of the largest publication.
+pub fn last_part_is_of_the_largest_publication()
+    ensures { publication_parts segments_limit ≡ 1 + last_part }
 {}
 
 /// A word is read as a value just where the value is in its range and the word is a text of it.
@@ -75,14 +79,11 @@ pub fn what_asks_the_group_first_adds_nothing()
         → asks_the_group_first s.verb ≡ true → after_line d s ≢ Err TooLarge }
 {}
 
-/// Worked lines, as the definition computes them.
+/// Worked lines that are read, as the definition computes them.
 pub fn worked_lines()
     ensures group { line_of (codes "group /g") ≡ Ok (Some (statement Group (Named ((8, codes "g") ∷ []) ∷ []))) }
     ensures claim { line_of (codes " claim  bob 16 ")
         ≡ Ok (Some (statement Claim (Text (codes "bob") ∷ Number 16 ∷ []))) }
-    ensures over { line_of (codes "claim bob 17") ≡ Err Limit }
-    ensures syntax_first { line_of (codes "answer bob 17 Bob") ≡ Err Syntax }
-    ensures long_number { line_of (codes "claim bob 9999999999999999999") ≡ Err Syntax }
     ensures withdrawal { line_of (codes "withdraw a 65535")
         ≡ Ok (Some (statement Withdraw (Text (codes "a") ∷ Number 65535 ∷ []))) }
     ensures filled { line_of (codes "publish a /x 4 fill:3:65")
@@ -92,6 +93,13 @@ pub fn worked_lines()
         (statement Mirror (Text (codes "mia") ∷ Text (codes "alice") ∷ Named ((8, codes "doc") ∷ []) ∷ []))) }
     ensures every_object { line_of (codes "watch bob * /")
         ≡ Ok (Some (statement Watch (Text (codes "bob") ∷ Anyone ∷ Named [] ∷ []))) }
-    ensures blocks { line_of (codes "insert a c /in 5 205") ≡ Err Limit }
     ensures comment { line_of (codes " # g") ≡ Ok None }
+{}
+
+/// Worked lines that are refused, as the definition computes what refuses them.
+pub fn worked_refusals()
+    ensures over { line_of (codes "claim bob 17") ≡ Err Limit }
+    ensures syntax_first { line_of (codes "answer bob 17 Bob") ≡ Err Syntax }
+    ensures long_number { line_of (codes "claim bob 9999999999999999999") ≡ Err Syntax }
+    ensures blocks { line_of (codes "insert a c /in 5 205") ≡ Err Limit }
 {}

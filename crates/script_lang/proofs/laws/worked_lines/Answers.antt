@@ -13,13 +13,9 @@ unfolding label_of publisher_of numeral_of hex_of content_of filled_of after_wor
 returns c = record {
   group = refl;
   claim = refl;
-  over = refl;
-  syntax_first = refl;
-  long_number = refl;
   withdrawal = refl;
   filled = refl;
   mirror = refl;
   every_object = refl;
-  blocks = refl;
   comment = refl;
 }
