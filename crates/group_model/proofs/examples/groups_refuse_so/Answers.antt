@@ -14,22 +14,6 @@ pub returns-clause-idle : goal.returns-clause-idle
 unfolding join join_all covers
 returns-clause-idle c = ((refl, refl), refl)
 
-pub returns-clause-hear : goal.returns-clause-hear
-unfolding join join_all covers
-returns-clause-hear c = ((refl, refl), refl)
-
-pub returns-clause-feed : goal.returns-clause-feed
-unfolding join join_all covers
-returns-clause-feed c = ((refl, refl), refl)
-
-pub returns-clause-answer : goal.returns-clause-answer
-unfolding join join_all covers
-returns-clause-answer c = ((refl, refl), refl)
-
-pub returns-clause-order : goal.returns-clause-order
-unfolding join join_all covers
-returns-clause-order c = ((refl, refl), refl)
-
 pub returns-clause-spent : goal.returns-clause-spent
 returns-clause-spent c = (refl, refl)
 
