@@ -23,10 +23,14 @@ use crate::element_types::{
 use crate::parameters::PARAMETER;
 use crate::status_codes::{ACCEPTED, DONE, IN_PROGRESS, MALFORMED, NOT_FOUND, NOT_VALIDATED};
 
-/// The order tables of commands and answers are those of the profile, and so are the types of elements.
+/// The order tables of commands and answers are those of the profile.
 pub fn order_tables_are_the_profiles()
     ensures parameter { PARAMETER ≡ repo_command_parameter }
     ensures response { RESPONSE ≡ repo_command_response }
+{}
+
+/// The types of the elements of commands and answers are those of the profile.
+pub fn element_types_are_the_profiles()
     ensures parameter_type { REPO_COMMAND_PARAMETER ≡ types.RepoCommandParameter }
     ensures response_type { REPO_COMMAND_RESPONSE ≡ types.RepoCommandResponse }
     ensures first { START_BLOCK_ID ≡ types.StartBlockId }

@@ -20,7 +20,7 @@ pub use command::Command;
 pub use command_interest::{KEY_NAME_LIMIT, check_command, make_command};
 pub use command_refusal::CommandRefusal;
 pub use laws::{
-    command_refusals_are_of_the_octets, commands_are_tested, made_commands_are_checked,
-    order_tables_are_the_profiles, status_codes_are_the_profiles, taken_commands_are_within_limits,
-    written_answers_are_read,
+    command_refusals_are_of_the_octets, commands_are_tested, element_types_are_the_profiles,
+    made_commands_are_checked, order_tables_are_the_profiles, status_codes_are_the_profiles,
+    taken_commands_are_within_limits, written_answers_are_read,
 };
