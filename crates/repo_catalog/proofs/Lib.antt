@@ -7,6 +7,7 @@ pub mod IndexLemmas
 pub mod MergeLemmas
 pub mod NamedLemmas
 pub mod SoughtLemmas
+mod AllNamedLemmas
 pub mod PairLemmas
 mod RowLemmas
 mod SumLemmas

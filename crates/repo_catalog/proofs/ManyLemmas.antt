@@ -1,6 +1,6 @@
 -- What a catalogue has after many entries are added or removed.
 use Rattle.std.proofs.Common.{◌≡◌, ℕ, ◌≤◌, Bool, true, false, cond, not, ◌&&◌, ◌||◌, List, [], ◌∷◌, ◌++◌, map, Option}
-use Rattle.std.proofs.Common.{Some, None, refl, sym, ap, subst, ◌∙◌, inl, inr, suc, zero, get_or, length, ◌<◌, arith}
+use Rattle.std.proofs.Common.{Some, None, refl, sym, ap, subst, ◌∙◌, inl, inr, suc, get_or, length, ◌<◌, arith}
 use Rattle.std.proofs.Common.{add-one}
 use Rattle.std.specs.Prelude.{is_some}
 use Rattle.std.specs.List.{filter, Contains}
@@ -18,6 +18,7 @@ use Rattle.std.proofs.lemmas.List.Sorted.{IsPermutation-sym, Contains-permutatio
 use Rattle.repo_plan.specs.Parts.{Pair, pair_cmp}
 use Rattle.repo_plan.proofs.Orders.{exact_pairs}
 use Rattle.sorted_lists.specs.SortedList.{contains, Rises}
+use Rattle.sorted_lists.proofs.Members.{in_at}
 use Rattle.sorted_lists.proofs.Orders.{greater_back}
 use Rattle.sorted_lists.proofs.Sets.{In, before_more, eq_same, eq_itself, eq_turned, rises_filter}
 use Rattle.repo_catalog.specs.declared.entry.Entry.{Entry}
@@ -148,15 +149,10 @@ without_all_rises gone es r =
 
 -- ---- entries in another order
 
-in_at : (x : Entry) (xs : List Entry) (i : ℕ) → i < length xs → get_or xs i x ≡ x → In x xs
-in_at x [] i l e = absurd (omega arith)
-in_at x (y ∷ ys) zero l e = inl (sym e)
-in_at x (y ∷ ys) (suc i) l e = inr (in_at x ys i (omega arith) e)
+pub in_contained : {A : Type 0} (x : A) (xs : List A) → Contains xs x → In x xs
+in_contained {A} x xs c = subst (λ (y : A). In y xs) c.2 (in_at xs c.0 x c.1)
 
-in_contained : (x : Entry) (xs : List Entry) → Contains xs x → In x xs
-in_contained x xs c = in_at x xs c.0 c.1 c.2
-
-contained : (x : Entry) (xs : List Entry) → In x xs → Contains xs x
+pub contained : {A : Type 0} (x : A) (xs : List A) → In x xs → Contains xs x
 contained x [] i = absurd i
 contained x (y ∷ ys) (inl e) = (0, omega arith, sym e)
 contained x (y ∷ ys) (inr i) = let c = contained x ys i in (suc c.0, omega (arith, c.1), c.2)

@@ -17,13 +17,16 @@ use Rattle.sorted_lists.proofs.Orders.{first_less}
 use Rattle.sorted_lists.proofs.Sets.{In, eq_itself}
 use Rattle.sorted_lists.proofs.TwoOrders.{nat_le}
 use Rattle.repo_catalog.specs.declared.entry.Entry.{Entry}
-use Rattle.repo_catalog.specs.Entries.{publication_of, is_of, entry_of, entry_has_name, is_named_from}
-use Rattle.repo_catalog.specs.Entries.{IsCatalogue}
+use Rattle.repo_catalog.specs.Entries.{publication_of, is_of, entry_of, entry_has_name, IsCatalogue}
 use Rattle.repo_catalog.specs.NameKeys.{Key, key_cmp, key_of, hash_of, has_hash, is_key, IsFirstFrom}
 use Rattle.sorted_lists.specs.SortedList.{contains}
 use Rattle.repo_catalog.proofs.LawLemmas.{named}
 use Rattle.repo_catalog.proofs.ManyLemmas.{entry_is_of}
 use Rattle.repo_catalog.proofs.MergeLemmas.{IsAhead}
+
+-- the entry is not of a publication before this one, and its object has the name
+abbrev pub is_named_from : List Component → Pair → Entry → Bool
+is_named_from name from e = is_le (pair_cmp from (publication_of e)) && entry_has_name name e
 
 -- ---- order
 

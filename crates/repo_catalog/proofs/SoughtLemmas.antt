@@ -3,7 +3,7 @@ use Rattle.std.proofs.Common.{◌≡◌, ◌⊎◌, inl, inr, ◌==◌, Bool, tr
 use Rattle.std.proofs.Common.{Some, None, refl, sym, ap, subst, ◌∙◌}
 use Rattle.std.specs.Prelude.{find, option_map}
 use Rattle.std.specs.List.{filter}
-use Rattle.std.specs.Ordering.{is_le, is_lt}
+use Rattle.std.specs.Ordering.{is_le}
 use Rattle.std.proofs.lemmas.Bool.{true≢false, and_parts, and_from}
 use Rattle.ndn_name.specs.Names.{Component}
 use Rattle.repo_plan.specs.Parts.{Pair, pair_cmp}
@@ -14,23 +14,27 @@ use Rattle.sorted_lists.proofs.Sets.{In, eq_same, in_filter}
 use Rattle.sorted_lists.proofs.Members.{in_filtered}
 use Rattle.sorted_lists.proofs.LeastOnes.{le_both, first_same, lesser_first}
 use Rattle.repo_catalog.specs.declared.entry.Entry.{Entry}
-use Rattle.repo_catalog.specs.Entries.{publication_of, entry_of, entry_has_name, is_named_from, IsCatalogue}
+use Rattle.repo_catalog.specs.Entries.{publication_of, entry_of, entry_has_name, first_named, IsCatalogue}
 use Rattle.repo_catalog.specs.NameKeys.{Key, key_cmp, key_of, hash_of, has_hash, is_key, IsIndexOf}
-use Rattle.repo_catalog.specs.NameKeys.{is_named, is_sought, IsSoughtKey}
+use Rattle.repo_catalog.specs.NameKeys.{is_named, has_name, is_sought, IsSoughtKey}
 use Rattle.repo_catalog.proofs.IndexLemmas.{key_is, same_number}
 use Rattle.repo_catalog.proofs.KeyLemmas.{exact_keys}
 use Rattle.repo_catalog.proofs.LawLemmas.{named}
 use Rattle.repo_catalog.proofs.ManyLemmas.{found_in, entry_is_of}
 use Rattle.repo_catalog.proofs.MergeLemmas.{IsAhead}
-use Rattle.repo_catalog.proofs.NamedLemmas.{not_less_le, listed_in, before_in, none_passes, found_passes}
+use Rattle.repo_catalog.proofs.NamedLemmas.{is_named_from, from_start, find_all_from, listed_in, before_in}
+use Rattle.repo_catalog.proofs.NamedLemmas.{none_passes, found_passes}
 
--- ---- whether a publication is sought, by its entry
+-- tests that hold together are the same
+pub same_truth : (a b : Bool) → (a ≡ true → b ≡ true) → (b ≡ true → a ≡ true) → a ≡ b
+same_truth true b f g = sym (f refl)
+same_truth false true f g = g refl
+same_truth false false f g = refl
 
-pub sought_is : (name : List Component) (from p : Pair) (es : List Entry) (b : Bool) (o : Option Entry)
-    → is_lt (pair_cmp p from) ≡ false → entry_of p es ≡ o → b ≡ is_named name o → b ≡ is_sought name from es p
-sought_is name from p es b o less there h =
-    let le : is_le (pair_cmp from p) ≡ true = not_less_le p from (λ l. true≢false (sym (ap is_lt l) ∙ less)) in
-    h ∙ sym (λ j. le j && is_named name (there j))
+-- from the start on, those that have the name are sought
+pub sought_from_start : (name : List Component) (es : List Entry) (p : Pair)
+    → is_sought name (0, 0) es p ≡ has_name name es p
+sought_from_start name es p = ap (λ (b : Bool). b && has_name name es p) (from_start p)
 
 -- ---- some of the entries
 
@@ -41,7 +45,7 @@ ahead_of_some test x (y ∷ ys) a = go (ahead_of_some test x ys a.1) (test y) wh
   go rest true = (a.0, rest)
   go rest false = rest
 
-some_rise : (test : Entry → Bool) (es : List Entry) → IsCatalogue es → IsCatalogue (filter test es)
+pub some_rise : (test : Entry → Bool) (es : List Entry) → IsCatalogue es → IsCatalogue (filter test es)
 some_rise test [] r = r
 some_rise test (y ∷ ys) r = go (some_rise test ys r.1) (test y) where
   go : IsCatalogue (filter test ys) → (b : Bool) → IsCatalogue (cond b (y ∷ filter test ys) (filter test ys))
@@ -70,7 +74,7 @@ find_least test (y ∷ ys) x e r h i t = go (λ g j. find_least test ys x e r.1 
   go f false s g (inr j) = f g j
 
 -- there is one first
-one_first : (P : Pair → Type 0) (a b : Option Pair) → IsFirstBy pair_cmp (λ p. p) P a
+pub one_first : (P : Pair → Type 0) (a b : Option Pair) → IsFirstBy pair_cmp (λ p. p) P a
     → IsFirstBy pair_cmp (λ p. p) P b → a ≡ b
 one_first P None None f g = refl
 one_first P None (Some b) f g = absurd (f b g.there)
@@ -80,11 +84,11 @@ one_first P (Some a) (Some b) f g =
 
 module _ (name : List Component) (from : Pair) (es : List Entry) (r : IsCatalogue es) where
   -- the entry of a publication that is sought
-  record IsSoughtEntry (p : Pair) (e : Entry) : Type 0 where
-    there : entry_of p es ≡ Some e
-    passes : is_named_from name from e ≡ true
+  pub record IsSoughtEntry (p : Pair) (e : Entry) : Type 0 where
+    pub there : entry_of p es ≡ Some e
+    pub passes : is_named_from name from e ≡ true
 
-  sought_entry : (p : Pair) → is_sought name from es p ≡ true → (e : Entry) × IsSoughtEntry p e
+  pub sought_entry : (p : Pair) → is_sought name from es p ≡ true → (e : Entry) × IsSoughtEntry p e
   sought_entry p s = go (entry_of p es) refl (and_parts (is_le (pair_cmp from p)) _ s) where
     go : (o : Option Entry) → entry_of p es ≡ o → (is_le (pair_cmp from p) ≡ true) × (is_named name o ≡ true)
         → (e : Entry) × IsSoughtEntry p e
@@ -99,7 +103,7 @@ module _ (name : List Component) (from : Pair) (es : List Entry) (r : IsCatalogu
       },
     )
 
-  entry_sought : (e : Entry) → In e es → is_named_from name from e ≡ true
+  pub entry_sought : (e : Entry) → In e es → is_named_from name from e ≡ true
       → is_sought name from es (publication_of e) ≡ true
   entry_sought e i t =
       ap (λ (o : Option Entry). is_le (pair_cmp from (publication_of e)) && is_named name o) (listed_in es e r i) ∙ t
@@ -133,14 +137,14 @@ module _ (name : List Component) (from : Pair) (es : List Entry) (r : IsCatalogu
 
   -- ---- where an entry's key is in the index, or waits for that
 
-  sought_key : (p : Pair) (e : Entry) → IsSoughtEntry p e → key_of e ≡ (hash_of name, p)
+  pub sought_key : (p : Pair) (e : Entry) → IsSoughtEntry p e → key_of e ≡ (hash_of name, p)
   sought_key p e s =
       let same = named name e (and_parts (is_le (pair_cmp from (publication_of e))) _ s.passes).1 in
       let of = entry_is_of p es e s.there in
       λ j. (hash_of (same j), sym of j)
 
   module _ (ks : List Key) (ws : List Pair) (i : IsIndexOf es ks ws) where
-    back : (p : Pair) → is_sought name from es p ≡ true
+    pub back : (p : Pair) → is_sought name from es p ≡ true
         → IsSoughtKey name from es ks p ⊎ Passes ws (is_sought name from es) p
     back p s =
         let e = sought_entry p s in
@@ -150,15 +154,23 @@ module _ (name : List Component) (from : Pair) (es : List Entry) (r : IsCatalogu
         (same_number (hash_of e.0.name)) in
         elim (i.found (hash_of name, p) key) [ inl k ↦ inl (s, k) | inr w ↦ inr (w, s) ]
 
-    pub first_of_all : (a b : Option Pair) → IsFirstBy pair_cmp (λ p. p) (IsSoughtKey name from es ks) a
-        → IsFirstThat pair_cmp (λ p. p) ws (is_sought name from es) b
-        → lesser_by pair_cmp (λ p. p) a b ≡ option_map publication_of (find (is_named_from name from) es)
-    first_of_all a b f g =
-        sought_found (lesser_by pair_cmp (λ p. p) a b)
-        (first_same exact_pairs (λ p. p) (λ p. IsSoughtKey name from es ks p ⊎ Passes ws (is_sought name from es) p)
-        (λ p. is_sought name from es p ≡ true) (λ p c. elim c [ inl k ↦ k.0 | inr w ↦ w.1 ]) back
-        (lesser_by pair_cmp (λ p. p) a b)
-        (lesser_first exact_pairs (λ p. p) (IsSoughtKey name from es ks) (Passes ws (is_sought name from es)) a b f g))
+module _ (name : List Component) (es : List Entry) (r : IsCatalogue es) (ks : List Key) (ws : List Pair)
+    (i : IsIndexOf es ks ws) where
+  -- the first of those in the index, or of those that wait
+  pub first_of_all : (a b : Option Pair) → IsFirstBy pair_cmp (λ p. p) (IsSoughtKey name (0, 0) es ks) a
+      → IsFirstThat pair_cmp (λ p. p) ws (has_name name es) b
+      → lesser_by pair_cmp (λ p. p) a b ≡ option_map publication_of (first_named name es)
+  first_of_all a b f g =
+      sought_found name (0, 0) es r (lesser_by pair_cmp (λ p. p) a b)
+      (first_same exact_pairs (λ p. p) (λ p. IsSoughtKey name (0, 0) es ks p ⊎ Passes ws (has_name name es) p)
+      (λ p. is_sought name (0, 0) es p ≡ true)
+      (λ p c. elim c [ inl k ↦ k.0 | inr w ↦ sought_from_start name es p ∙ w.1 ])
+      (λ p s. elim (back name (0, 0) es r ks ws i p s) [
+        | inl k ↦ inl k
+        | inr w ↦ inr (w.0, sym (sought_from_start name es p) ∙ w.1)
+      ]) (lesser_by pair_cmp (λ p. p) a b)
+      (lesser_first exact_pairs (λ p. p) (IsSoughtKey name (0, 0) es ks) (Passes ws (has_name name es)) a b f g))
+      ∙ ap (option_map publication_of) (find_all_from name es)
 
 -- ---- the entries whose keys are in the index
 
@@ -195,11 +207,6 @@ module _ (ks : List Key) (es : List Entry) (r : IsCatalogue es) where
   module _ (ws : List Pair) (i : IsIndexOf es ks ws) where
     pub has_keys : (q : Key) → contains key_cmp ks q ≡ is_key indexed q
     has_keys q = same_truth (contains key_cmp ks q) (is_key indexed q) there back where
-      same_truth : (a b : Bool) → (a ≡ true → b ≡ true) → (b ≡ true → a ≡ true) → a ≡ b
-      same_truth true b f g = sym (f refl)
-      same_truth false true f g = g refl
-      same_truth false false f g = refl
-
       there : contains key_cmp ks q ≡ true → is_key indexed q ≡ true
       there k = go (entry_of q.1 es) refl (i.listed q k) where
         go : (o : Option Entry) → entry_of q.1 es ≡ o → has_hash q.0 o ≡ true → is_key indexed q ≡ true

@@ -55,9 +55,13 @@ abbrev pub is_named : List Component → Option Entry → Bool
 is_named name None = false
 is_named name (Some e) = entry_has_name name e
 
--- The publication is not before another, and has an entry whose object has the name.
+-- The publication has an entry whose object has the name.
+abbrev pub has_name : List Component → List Entry → Pair → Bool
+has_name name entries pair = is_named name (entry_of pair entries)
+
+-- It has, and the publication is not before another.
 abbrev pub is_sought : List Component → Pair → List Entry → Pair → Bool
-is_sought name from entries pair = is_le (pair_cmp from pair) && is_named name (entry_of pair entries)
+is_sought name from entries pair = is_le (pair_cmp from pair) && has_name name entries pair
 
 -- It is sought, and the index has its key.
 abbrev pub IsSoughtKey : List Component → Pair → List Entry → List Key → Pair → Type 0

@@ -1,18 +1,60 @@
 // Look-ups by name, in the index and among what waits for its place there.
-ghost use Rattle.std.specs.Prelude.{◌≡◌, true, Some};
+ghost use Rattle.std.specs.Prelude.{◌≡◌, true, Some, IfOk, option_map};
+ghost use Rattle.std.specs.List.{filter};
 ghost use Rattle.sorted_lists.specs.Least.{IsFirstBy, IsFirstThat, lesser_by};
 ghost use Rattle.repo_plan.specs.Parts.{pair_cmp};
-ghost use Rattle.repo_catalog.specs.Entries.{entry_of, lists, IsCatalogue};
-ghost use Rattle.repo_catalog.specs.NameKeys.{hash_of, is_sought, IsIndexOf, IsSoughtKey};
+ghost use Rattle.repo_catalog.specs.Entries.{publication_of, entry_of, lists, first_named, all_named, IsCatalogue};
+ghost use Rattle.repo_catalog.specs.NameKeys.{hash_of, has_name, IsIndexOf, IsSoughtKey};
 
 use crate::entry::Entry;
-use crate::name_index::NameIndex;
+use crate::name_index::{NameIndex, name_hash};
 use crate::search::place_of;
 use ndn_name::NameView;
+use std::alloc::{AllocError, Global};
+
+// The least publication whose object has the name.
+pub(crate) fn first_named(
+    names: &NameIndex,
+    entries: &[Entry],
+    name: &NameView<'_>,
+) -> Option<(u32, u16)>
+    requires in_order { IsCatalogue entries.now }
+    requires indexed { IsIndexOf entries.now names.now.keys names.now.waiting }
+    ensures { result ≡ option_map publication_of (first_named name.now entries.now) }
+{
+    lesser(
+        first_indexed(names, entries, name, name_hash(name), (0, 0)),
+        first_waiting(names.waiting(), entries, name),
+    )
+}
+
+// The publications whose objects have the name, in order. Those that wait are collected once and sorted in among the
+// others. One may wait twice, where its entry was removed and added again.
+pub(crate) fn all_named(
+    alloc: Global,
+    names: &NameIndex,
+    entries: &[Entry],
+    name: &NameView<'_>,
+) -> Result<Vec<(u32, u16)>, AllocError>
+    requires in_order { IsCatalogue entries.now }
+    requires indexed { IsIndexOf entries.now names.now.keys names.now.waiting }
+    ensures { IfOk result (λ pairs. pairs.items ≡ all_named name.now entries.now) }
+{
+    let mut pairs = all_waiting(alloc, names.waiting(), entries, name)?;
+    let hash = name_hash(name);
+    let mut from = (0, 0);
+    while let Some((publisher, seq)) = first_indexed(names, entries, name, hash, from) {
+        pairs.push((publisher, seq))?;
+        from = (publisher, u32::from(seq) + 1);
+    }
+    pairs.sort_unstable();
+    pairs.dedup();
+    Ok(pairs)
+}
 
 // The least publication from this one on, of those whose keys are in the index, whose object has the name, which has
 // the hash.
-pub(crate) fn first_indexed(
+fn first_indexed(
     names: &NameIndex,
     entries: &[Entry],
     name: &NameView<'_>,
@@ -38,47 +80,56 @@ pub(crate) fn first_indexed(
     None
 }
 
-// The least publication from this one on, of those that wait, whose object has the name.
-pub(crate) fn first_waiting(
+// The least publication, of those that wait, whose object has the name.
+fn first_waiting(
     waiting: &[(u32, u16)],
     entries: &[Entry],
     name: &NameView<'_>,
-    from: (u32, u32),
 ) -> Option<(u32, u16)>
     requires { IsCatalogue entries.now }
-    ensures { IsFirstThat pair_cmp (λ p. p) waiting.now (is_sought name.now from entries.now) result }
+    ensures { IsFirstThat pair_cmp (λ p. p) waiting.now (has_name name.now entries.now) result }
 {
     let mut least = None;
     for publication in waiting {
-        if is_sought(entries, name, from, *publication) {
+        if has_name(entries, name, *publication) {
             least = lesser(least, Some(*publication));
         }
     }
     least
 }
 
-// Whether the publication is not before another, and its object has the name.
-fn is_sought(
+// The publications, of those that wait, whose objects have the name.
+fn all_waiting(
+    alloc: Global,
+    waiting: &[(u32, u16)],
     entries: &[Entry],
     name: &NameView<'_>,
-    from: (u32, u32),
-    publication: (u32, u16),
-) -> bool
+) -> Result<Vec<(u32, u16)>, AllocError>
     requires { IsCatalogue entries.now }
-    ensures { result ≡ is_sought name.now from entries.now publication }
+    ensures { IfOk result (λ pairs. pairs.items ≡ filter (has_name name.now entries.now) waiting.now) }
 {
-    let pair = (publication.0, u32::from(publication.1));
-    if pair < from {
-        return false;
+    let mut pairs = Vec::new(alloc);
+    for publication in waiting {
+        if has_name(entries, name, *publication) {
+            pairs.push(*publication)?;
+        }
     }
-    match place_of(entries, pair) {
+    Ok(pairs)
+}
+
+// Whether the publication has an entry, whose object has the name.
+fn has_name(entries: &[Entry], name: &NameView<'_>, publication: (u32, u16)) -> bool
+    requires { IsCatalogue entries.now }
+    ensures { result ≡ has_name name.now entries.now publication }
+{
+    match place_of(entries, (publication.0, u32::from(publication.1))) {
         Ok(place) => entries[place].name.view().compare(name).is_eq(),
         Err(_) => false,
     }
 }
 
 // The lesser of two publications.
-pub(crate) fn lesser(a: Option<(u32, u16)>, b: Option<(u32, u16)>) -> Option<(u32, u16)>
+fn lesser(a: Option<(u32, u16)>, b: Option<(u32, u16)>) -> Option<(u32, u16)>
     ensures { result ≡ lesser_by pair_cmp (λ p. p) a b }
 {
     match (a, b) {

@@ -1,4 +1,4 @@
-ghost use Rattle.std.specs.Prelude.{◌≡◌, ◌-◌, ◌<◌, ◌≤◌, ◌^◌, ◌↔◌, [], not, max, length, reverse, option_map, find};
+ghost use Rattle.std.specs.Prelude.{◌≡◌, ◌-◌, ◌<◌, ◌≤◌, ◌^◌, ◌↔◌, [], not, max, length, reverse, option_map};
 ghost use Rattle.std.specs.Prelude.{Some, true, IfOk, OnOk, OnErr, IsTrue, vec_capacity};
 ghost use Rattle.std.specs.List.{sum_by};
 ghost use Rattle.std.specs.List.Sorted.{IsSearchInRange, IsBinarySearchResult};
@@ -6,16 +6,15 @@ ghost use Rattle.std.specs.Option.{option_copied};
 ghost use Rattle.sorted_lists.specs.SortedList.{Rises};
 ghost use Rattle.repo_plan.specs.Parts.{pair_cmp};
 ghost use Rattle.repo_catalog.specs.Entries.{publication_of, beside, entry_of, lists, first_named, all_named};
-ghost use Rattle.repo_catalog.specs.Entries.{is_named_from, with_entry, with_entries, without, without_all};
+ghost use Rattle.repo_catalog.specs.Entries.{with_entry, with_entries, without, without_all};
 ghost use Rattle.repo_catalog.specs.Entries.{IsCatalogue, AreApart};
-ghost use Rattle.repo_catalog.specs.NameKeys.{hash_of};
 
-use crate::by_name::{first_indexed, first_waiting, lesser};
+use crate::by_name::{all_named, first_named};
 use crate::entry::Entry;
 use crate::entry_row::EntryRow;
 use crate::entry_totals::EntryTotals;
 use crate::merge::forget;
-use crate::name_index::{NameIndex, key_of, name_hash};
+use crate::name_index::{NameIndex, key_of};
 use crate::search::place_of;
 use ndn_name::NameView;
 use std::alloc::{AllocError, Global};
@@ -261,34 +260,15 @@ impl Catalogue {
     pub fn first_named(&self, name: &NameView<'_>) -> Option<(u32, u16)>
         ensures { result ≡ option_map publication_of (first_named name.now self.now.entries) }
     {
-        self.next_named(name, name_hash(name), (0, 0))
+        first_named(&self.names, self.entries.as_slice(), name)
     }
 
-    /// The publishers and numbers whose objects have this name, in order.
+    /// The publishers and numbers whose objects have this name, in order. The entries whose names aren't in the index
+    /// are read once.
     pub fn named(&self, alloc: Global, name: &NameView<'_>) -> Result<Vec<(u32, u16)>, AllocError>
         ensures { IfOk result (λ pairs. pairs.items ≡ all_named name.now self.now.entries) }
     {
-        let hash = name_hash(name);
-        let mut pairs = Vec::new(alloc);
-        let mut from = (0, 0);
-        while let Some((publisher, seq)) = self.next_named(name, hash, from) {
-            pairs.push((publisher, seq))?;
-            from = (publisher, u32::from(seq) + 1);
-        }
-        Ok(pairs)
-    }
-
-    // The least publisher and number from this pair on whose object has the name, which has the hash.
-    fn next_named(&self, name: &NameView<'_>, hash: u64, from: (u32, u32)) -> Option<(u32, u16)>
-        requires { hash ≡ hash_of name.now }
-        ensures ordered { IsCatalogue self.now.entries }
-        ensures found { result ≡ option_map publication_of (find (is_named_from name.now from) self.now.entries) }
-    {
-        let entries = self.entries.as_slice();
-        lesser(
-            first_indexed(&self.names, entries, name, hash, from),
-            first_waiting(self.names.waiting(), entries, name, from),
-        )
+        all_named(alloc, &self.names, self.entries.as_slice(), name)
     }
 
     // The entries are in order. Costs nothing, and is called for its clause.

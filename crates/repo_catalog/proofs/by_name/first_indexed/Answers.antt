@@ -4,11 +4,11 @@ use Rattle.std.specs.List.{filter}
 use Rattle.std.specs.declared.cmp.Ordering.TheVariants.{Less}
 use Rattle.repo_plan.specs.Parts.{Pair}
 use Rattle.repo_catalog.specs.declared.entry.Entry.{Entry}
-use Rattle.repo_catalog.specs.Entries.{entry_of, entry_has_name, is_named_from}
+use Rattle.repo_catalog.specs.Entries.{entry_of, entry_has_name}
 use Rattle.repo_catalog.specs.NameKeys.{Key, key_cmp, has_hash}
 use Rattle.repo_catalog.proofs.ManyLemmas.{found_in}
-use Rattle.repo_catalog.proofs.NamedLemmas.{is_from, none_from, none_of_hash, next_key, next_entry, next_found}
-use Rattle.repo_catalog.proofs.NamedLemmas.{next_passed, fewer_left}
+use Rattle.repo_catalog.proofs.NamedLemmas.{is_named_from, is_from, none_from, none_of_hash, next_key}
+use Rattle.repo_catalog.proofs.NamedLemmas.{next_entry, next_found, next_passed, fewer_left}
 use Rattle.repo_catalog.proofs.SoughtLemmas.{indexed_of, indexed_rise, keyed, has_keys, indexed_first}
 use Rattle.repo_catalog.proofs.by_name.first_indexed.Goals as goal
 

@@ -1,8 +1,7 @@
 use Rattle.std.proofs.Common.{◌≡◌, length}
 use Rattle.std.specs.Prelude.{find}
 use Rattle.std.specs.List.{filter}
-use Rattle.repo_catalog.specs.Entries.{is_named_from}
-use Rattle.repo_catalog.proofs.NamedLemmas.{is_from}
+use Rattle.repo_catalog.proofs.NamedLemmas.{is_named_from, is_from}
 use Rattle.repo_catalog.proofs.SoughtLemmas.{indexed_of}
 use Rattle.repo_catalog.proofs.by_name.first_indexed.Given as goal
 
