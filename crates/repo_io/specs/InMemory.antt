@@ -1,5 +1,6 @@
 -- A source and a sink in memory, as contracts see them, and what a call does to them.
-use Rattle.std.specs.Prelude.{ℕ, ◌+◌, min, Bool, List, ◌++◌, length, take, drop, if◌then◌else◌, ◌==◌}
+use Rattle.std.specs.Prelude.{◌≡◌, ◌↔◌, ℕ, ◌+◌, min, Bool, IsTrue, List, ◌++◌, length, take, drop, if◌then◌else◌, ◌==◌}
+use Rattle.std.specs.Prelude.{Result, IfOk, IsErr, OnOk, OnErr}
 use Rattle.std.specs.List.{list_any}
 
 -- The octets that are left, how many a call gives at most, the numbers of the calls that fail, how many calls there
@@ -50,3 +51,18 @@ after_failed k = record k { calls = one_more k.calls; faults = one_more k.faults
 -- What is there after a call that took the start of the piece.
 abbrev pub after_write : Store → List ℕ → Store
 after_write k piece = record k { out = k.out ++ take k.piece piece; calls = one_more k.calls }
+
+-- What a call of a source with so much room does. It fails where it is listed, and there alone. Else it gives as much
+-- as it can.
+pub record IsSourceCall {E : Type 0} (old new : Supply) (room : ℕ) (result : Result ℕ E) : Type 0 where
+  pub listed : IsErr result ↔ IsTrue (is_listed old.fails old.calls)
+  pub given : IfOk result (λ n. n ≡ given old room)
+  pub after : new ≡ after_read old room
+
+-- What a call of a sink does. It fails where it is listed. Where it doesn't fail it takes as much of the piece as it
+-- can.
+pub record IsSinkCall {E : Type 0} (old new : Store) (piece : List ℕ) (result : Result ℕ E) : Type 0 where
+  pub listed : IsTrue (is_listed old.fails old.calls) → IsErr result
+  pub took : IfOk result (λ n. n ≡ min (length piece) old.piece)
+  pub ok : OnOk result (new ≡ after_write old piece)
+  pub err : OnErr result (new ≡ after_failed old)

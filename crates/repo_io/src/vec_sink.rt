@@ -1,6 +1,5 @@
-ghost use Rattle.std.specs.Prelude.{◌≡◌, ◌<◌, ◌≤◌, ◌++◌, [], length, min, take, Ok, Some, IfOk, IsErr, IsTrue, OnOk};
-ghost use Rattle.std.specs.Prelude.{OnErr};
-ghost use Rattle.repo_io.specs.InMemory.{after_failed, after_write, is_listed};
+ghost use Rattle.std.specs.Prelude.{◌≡◌, ◌<◌, ◌≤◌, ◌++◌, [], length, take, Ok, Some, IfOk, OnErr};
+ghost use Rattle.repo_io.specs.InMemory.{IsSinkCall};
 ghost use Rattle.repo_io.specs.Outside.{HasRisen};
 
 use crate::failed::Failed;
@@ -79,10 +78,7 @@ impl Sink for VecSink {
         ensures failed { OnErr result (self.new.out ≡ self.old.out) }
         ensures risen { OnErr result (HasRisen self.old.faults self.new.faults) }
         ensures faults { self.old.faults ≤ self.new.faults }
-        ensures listed { IsTrue (is_listed self.old.fails self.old.calls) → IsErr result }
-        ensures took { IfOk result (λ n. n ≡ min (length piece.now) self.old.piece) }
-        ensures ok { OnOk result (self.new ≡ after_write self.old piece.now) }
-        ensures err { OnErr result (self.new ≡ after_failed self.old) }
+        ensures call { IsSinkCall self.old self.new piece.now result }
     {
         self.calls = self.calls.saturating_add(1);
         let n = piece.len().min(self.piece);

@@ -1,5 +1,5 @@
-ghost use Rattle.std.specs.Prelude.{◌≡◌, ◌<◌, ◌≤◌, ◌↔◌, ◌++◌, [], length, take, Ok, IfOk, IsErr, IsTrue, OnErr, Some};
-ghost use Rattle.repo_io.specs.InMemory.{after_read, given, is_listed};
+ghost use Rattle.std.specs.Prelude.{◌≡◌, ◌<◌, ◌≤◌, ◌++◌, [], length, take, Ok, IfOk, OnErr, Some};
+ghost use Rattle.repo_io.specs.InMemory.{IsSourceCall};
 ghost use Rattle.repo_io.specs.Outside.{HasRisen};
 
 use crate::failed::Failed;
@@ -71,9 +71,7 @@ impl Source for VecSource {
         ensures failed { OnErr result (self.new.left ≡ self.old.left) }
         ensures risen { OnErr result (HasRisen self.old.faults self.new.faults) }
         ensures faults { self.old.faults ≤ self.new.faults }
-        ensures listed { IsErr result ↔ IsTrue (is_listed self.old.fails self.old.calls) }
-        ensures given { IfOk result (λ n. n ≡ given self.old (length buf.old)) }
-        ensures after { self.new ≡ after_read self.old (length buf.old) }
+        ensures call { IsSourceCall self.old self.new (length buf.old) result }
     {
         self.calls = self.calls.saturating_add(1);
         if self.fails.contains(&self.calls) {
