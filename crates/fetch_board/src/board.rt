@@ -59,24 +59,6 @@ impl<T: Drop> Board<T> {
         ensures count { IfOk result (λ r. length r.1.items ≡ seats) }
         ensures seats { IfOk result (λ r. All (λ seat. seat ≡ fresh r.0 1) r.1.items) }
     {
-        let (board, first) = Board::open(alloc, items, tries, seats)?;
-        let seats = board.deal(alloc, first, seats)?;
-        Ok((board, seats))
-    }
-
-    // The board with one seat that stands for all.
-    fn open(
-        alloc: Global,
-        items: usize,
-        tries: u32,
-        seats: usize,
-    ) -> Result<(Board<T>, Seat<T>), AllocError>
-        requires items { items ≤ 4096 }
-        requires tries { (1 ≤ tries) × (tries ≤ 16) }
-        requires seats { (1 ≤ seats) × (seats ≤ 16) }
-        ensures board { IfOk result (λ r. (r.0.items ≡ items) × (r.0.tries ≡ tries) × (r.0.seats ≡ seats)) }
-        ensures seat { IfOk result (λ r. r.1 ≡ fresh r.0 seats) }
-    {
         // A board of no items keeps one word that nobody asks for.
         let cells = items.max(1);
         let words = vec![in alloc; 0u64; cells]?;
@@ -91,7 +73,8 @@ impl<T: Drop> Board<T> {
             tries,
             alloc,
         };
-        Ok((board, Seat { inner }))
+        let dealt = board.deal(alloc, Seat { inner }, seats)?;
+        Ok((board, dealt))
     }
 
     // The seat that stands for so many, as so many that stand for one each.

@@ -1,6 +1,6 @@
 use Rattle.std.proofs.Common.{rules, arith}
 use Rattle.fetch_board.proofs.Seats.{opens}
-use Rattle.fetch_board.proofs.board.Board.open.Goals as goal
+use Rattle.fetch_board.proofs.board.Board.new.Goals as goal
 
 pub vacant-requires : goal.vacant-requires
 vacant-requires g c =
