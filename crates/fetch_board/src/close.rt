@@ -1,8 +1,8 @@
-ghost use Rattle.std.specs.Prelude.{◌≡◌, ◌≢◌, ℕ, ◌+◌, ◌/◌, ◌<◌, ◌≤◌, length, IfOk, None, slice_index_or};
+ghost use Rattle.std.specs.Prelude.{◌≡◌, ◌≢◌, ℕ, ◌+◌, ◌/◌, ◌<◌, ◌≤◌, length, IfOk};
 ghost use Rattle.core.specs.Mem.Slots.{slots_items, slots_len, IsFull};
 ghost use mathlib.Core.Option.{some};
 ghost use lib.ListN.{get_elem?};
-ghost use Rattle.fetch_board.specs.Places.{TakenBelow};
+ghost use Rattle.fetch_board.specs.Places.{IsOutcome, TakenBelow};
 
 use crate::outcome::Outcome;
 use crate::word::SPENT;
@@ -47,14 +47,8 @@ pub(crate) fn settle<T: Drop>(
         → n ≢ 3 → n / 4 < tries }
     ensures same { slots_len closed.new.slots ≡ slots_len closed.old.slots }
     ensures taken { TakenBelow closed.new.slots (length values.items) }
-    ensures count { length result.values.items ≡ length values.items }
-    ensures counts { length result.attempts.items ≡ length values.items }
-    ensures values { (i : ℕ) → i < length values.items
-        → get_elem? (slots_items closed.old.slots) i ≡ some (slice_index_or result.values.items i None) }
-    ensures attempts { (i : ℕ) → i < length values.items
-        → (n : ℕ) × (get_elem? (slots_items closed.old.words) i ≡ some n)
-        × (n ≡ 3 → slice_index_or result.attempts.items i 0 ≡ tries)
-        × (n ≢ 3 → slice_index_or result.attempts.items i 0 ≡ n / 4 + 1) }
+    ensures outcome { IsOutcome closed.old.words closed.old.slots (length values.items) tries
+        result.values.items result.attempts.items }
 {
     for i in 0..values.len() {
         attempts[i] = attempts_of(closed.word(i), tries);

@@ -43,8 +43,8 @@ returns-clause-settled g c = λ i low.
     let fin = subst (λ t. Final (Seen (Kept t seats) seat.id seat.me.0) ws xs)
     (sym laid.tries_known) closed.ensures.values.2 in
     let near : i < length c.in_ok-values.values.items = omega (arith, below, c.in_ok-values.ensures) in
-    let tries_known = c.settle-outcome.ensures in
+    let settled = c.settle-outcome.ensures.outcome in
     let outcome = c.settle-outcome.result in
     subst (λ v. Settled v i (get_or outcome.values.items i None) (get_or outcome.attempts.items i 0)) c.seat.view_is
     (closes_at _ _ _ seat.me.0 ws xs seat.table_id fin same every rests.0 c.seat.invariant.places rests.1 i passed _
-    (tries_known.values i near) _ (tries_known.attempts i near))
+    (settled.values i near) _ (settled.attempts i near))
