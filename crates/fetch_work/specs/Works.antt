@@ -1,5 +1,5 @@
 -- What a worker's seat knows between its turns.
-use Rattle.std.specs.Prelude.{◌≡◌, ℕ, ◌<◌, ◌≤◌, Bool, true, false, [], length, Option, Some, None}
+use Rattle.std.specs.Prelude.{◌≡◌, ℕ, ◌*◌, ◌<◌, ◌≤◌, Bool, true, false, [], length, Option, Some, None}
 use Rattle.fetch_board.specs.Counts.{items, pairs, triples, Has}
 use Rattle.fetch_board.specs.Seats.{SeatData}
 
@@ -22,6 +22,14 @@ module _ {T : Type 0} where
     pub within : (i a : ℕ) → 0 < pairs i a v.tried → (i < count) × (a < tries)
     pub brought : (i a : ℕ) (x : T) → Has (i, a, x) v.done → packet_at i a ≡ Some x
     pub missed : (i a : ℕ) → 0 < pairs i a v.tried → triples i a v.done ≡ 0 → packet_at i a ≡ None
+
+  -- What the seat tried are different attempts at so many items, at most as many for each as there are tries. Each
+  -- value that it finished an item with is what that attempt brings, and each other attempt brings none.
+  pub record HasTried (packet_at : ℕ → ℕ → Option T) (count tries : ℕ) (v : SeatData T) : Type 0 where
+    pub finished : (i a : ℕ) (x : T) → Has (i, a, x) v.done → packet_at i a ≡ Some x
+    pub failed : (i a : ℕ) → 0 < pairs i a v.tried → triples i a v.done ≡ 0 → packet_at i a ≡ None
+    pub different : (i a : ℕ) → pairs i a v.tried ≤ 1
+    pub few : length v.tried ≤ count * tries
 
   -- What one visit of the item i makes of the seat v, which gave the item back or not.
   pub record Visits (packet_at : ℕ → ℕ → Option T) (count tries i : ℕ) (v : SeatData T) (gave_back : Bool)

@@ -1,10 +1,9 @@
-ghost use Rattle.std.specs.Prelude.{◌≡◌, ℕ, ◌*◌, ◌≤◌, ◌<◌, length, All, Some, None};
-ghost use Rattle.fetch_board.specs.Counts.{items, pairs, triples, Has};
+ghost use Rattle.std.specs.Prelude.{◌≡◌, ℕ, ◌<◌, length, All};
+ghost use Rattle.fetch_board.specs.Counts.{items};
 ghost use Rattle.fetch_board.specs.Seats.{IsSeatOf};
 ghost use Rattle.fetch_board.specs.Answers.{Rests};
-ghost use Rattle.repo_object.specs.Verdict.{CheckedPart};
 ghost use Rattle.fetch_work.specs.Attempts.{packet_at, job_at, CanBeTried};
-ghost use Rattle.fetch_work.specs.Works.{HasNothing};
+ghost use Rattle.fetch_work.specs.Works.{HasNothing, HasTried};
 
 use crate::link::Link;
 use crate::link_trial::LinkTrial;
@@ -72,12 +71,8 @@ impl<'p> Worker<Checked<'p>> {
         ensures shares { self.new.shares ≡ self.old.shares }
         ensures rests { Rests self.new }
         ensures passed { (i : ℕ) → i < length jobs.now → 0 < items i self.new.passed }
-        ensures finished { (i a : ℕ) (part : CheckedPart) → Has (i, a, part) self.new.done
-            → packet_at (L.answer link.now) ring.now (job_at jobs.now i) a ≡ Some part }
-        ensures failed { (i a : ℕ) → 0 < pairs i a self.new.tried → triples i a self.new.done ≡ 0
-            → packet_at (L.answer link.now) ring.now (job_at jobs.now i) a ≡ None }
-        ensures different { (i a : ℕ) → pairs i a self.new.tried ≤ 1 }
-        ensures few { length self.new.tried ≤ length jobs.now * board.now.tries }
+        ensures tried { HasTried (λ i. packet_at (L.answer link.now) ring.now (job_at jobs.now i)) (length jobs.now)
+            board.now.tries self.new }
     {
         let trial = LinkTrial { link, jobs, ring };
         work(board, &mut self.seat, &trial, jobs.len(), self.first);
