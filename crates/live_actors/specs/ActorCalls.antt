@@ -99,6 +99,13 @@ Fetches member f n old new =
 
 -- ---- the actor that publishes
 
+-- The actor of one of so many members can publish: it may put into the inbox of each, and has a ticket left.
+pub record CanPublish (count number : ℕ) (progress : Progress) : Type 0 where
+  pub members : count ≡ progress.members
+  pub senders : count ≡ progress.senders
+  pub member : number < count
+  pub ticket : 0 < progress.left
+
 -- A sync Interest goes to all members below n but this one, in order.
 abbrev pub tells : ℕ → ℕ → List ℕ → List Call
 tells zero member told = []

@@ -1,7 +1,7 @@
 ghost use Rattle.std.specs.Prelude.{◌≡◌, ◌<◌, ◌≤◌, IfOk, OnOk};
 ghost use Rattle.repo_plan.specs.Calls.{IsFetcher};
-ghost use Rattle.live_actors.specs.ActorCalls.{Makes, EndsClaim, Publishes, PublishesNext, tells, HearsSome, Fetches};
-ghost use Rattle.live_actors.specs.ActorCalls.{TakesTurn, IsActorIn, Acts, tickets_of};
+ghost use Rattle.live_actors.specs.ActorCalls.{Makes, EndsClaim, CanPublish, Publishes, PublishesNext, tells};
+ghost use Rattle.live_actors.specs.ActorCalls.{HearsSome, Fetches, TakesTurn, IsActorIn, Acts, tickets_of};
 
 use crate::actor::Actor;
 use crate::places::Places;
@@ -46,10 +46,7 @@ pub fn publish<L: Lists, R: Wait, P: Places<L>>(
     members: u32,
     member: u32,
 ) -> Result<(), AllocError>
-    requires members { members ≡ (P.progress places.old).members }
-    requires senders { members ≡ (P.progress places.old).senders }
-    requires member { member < members }
-    requires ticket { 0 < (P.progress places.old).left }
+    requires { CanPublish members member (P.progress places.old) }
     ensures { OnOk result (Publishes member (P.progress places.old) (P.progress places.new)) }
 {
     for _round in rt.forever() {
@@ -67,10 +64,7 @@ fn publish_next<L: Lists, P: Places<L>>(
     members: u32,
     member: u32,
 ) -> Result<bool, AllocError>
-    requires members { members ≡ (P.progress places.old).members }
-    requires senders { members ≡ (P.progress places.old).senders }
-    requires member { member < members }
-    requires ticket { 0 < (P.progress places.old).left }
+    requires { CanPublish members member (P.progress places.old) }
     ensures { IfOk result (λ more. PublishesNext member more (P.progress places.old) (P.progress places.new)) }
 {
     places.pass(member, PUBLISHER)?;

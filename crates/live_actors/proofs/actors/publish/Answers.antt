@@ -1,14 +1,21 @@
-use Rattle.std.proofs.Common.{Bool, subst, arith}
+use Rattle.std.proofs.Common.{Bool, sym, subst, ◌∙◌, arith}
 use Rattle.live_actors.specs.ActorCalls.{PublishesNext}
 use Rattle.live_actors.proofs.Making.{one_round, rounds_left}
 use Rattle.live_actors.proofs.actors.publish.Goals as goal
 
-pub publish_next-requires-clause-ticket : goal.publish_next-requires-clause-ticket
-publish_next-requires-clause-ticket g c =
+pub publish_next-requires : goal.publish_next-requires
+publish_next-requires g c =
     let progress = g.P.Places.progress in
+    let can = c.requires in
+    let made = c.loop-round.invariant.2 in
     let same =
     rounds_left c.args.member (progress c.args.places.now) (progress c.loop-round.places) c.loop-round.invariant in
-    let had = c.requires.ticket in omega (arith, same, had)
+    record {
+      members = can.members ∙ sym made.0;
+      senders = can.senders ∙ sym made.1;
+      member = can.member;
+      ticket = omega (arith, same, can.ticket);
+    }
 
 pub loop-round-preserved : goal.loop-round-preserved
 loop-round-preserved g c =
