@@ -1,5 +1,5 @@
 -- What a member hears, entry by entry.
-use Rattle.std.specs.Prelude.{ℕ, ◌≡◌, ◌==◌, not, List, ◌++◌, map, filter}
+use Rattle.std.specs.Prelude.{ℕ, ◌≡◌, ◌≢◌, ◌==◌, not, List, ◌++◌, map, filter}
 use Rattle.repo_member.specs.Verdicts.{sync_of}
 use Rattle.live_member.specs.declared.event.LiveEvent.{LiveEvent}
 use Rattle.live_member.specs.declared.event.LiveEvent.TheVariants as event
@@ -19,6 +19,11 @@ hearing t other = event.Hear (sync_of t.group other.state.number other.state.kno
 pub record HearsReport (t : Meaning) (other old new : Living) : Type 0 where
   pub reply : LiveReply
   pub entered : IsEntered t (hearing t other) old new reply
+
+-- The member at place `j` has heard the one at place `p`. Where that is itself it hears nothing, and nothing changes.
+pub record HearsOther (t : Meaning) (j p : ℕ) (old new : List Living) : Type 0 where
+  pub heard : p ≢ j → HearsReport t (at old p) (at old j) (at new j)
+  pub itself : p ≡ j → new ≡ old
 
 -- The sync Interests of the first `n` members are heard, in order, but not that of the member at place `j`.
 abbrev pub hearings : Meaning → ℕ → ℕ → List Living → List LiveEvent

@@ -1,7 +1,7 @@
-ghost use Rattle.std.specs.Prelude.{◌≡◌, ◌≢◌, ◌<◌, ◌≤◌, ◌+◌, length, OnOk};
+ghost use Rattle.std.specs.Prelude.{◌≡◌, ◌<◌, ◌≤◌, ◌+◌, length, OnOk};
 ghost use Rattle.live_member.specs.Meanings.{whole_logs};
 ghost use Rattle.live_settle.specs.Ready.{at, AreReady, AreGathering, HasRoom, KeepPrefixes, KnowsThose, Hears};
-ghost use Rattle.live_settle.specs.Hearings.{HearsReport, HearsFirst};
+ghost use Rattle.live_settle.specs.Hearings.{HearsOther, HearsFirst};
 
 use live_member::{Lists, Live};
 use repo_member::Group;
@@ -62,9 +62,7 @@ fn hear_one<L: Lists>(
     requires room { length (at lives.old j).journal < 1000000 }
     requires knows { KnowsThose (whole_logs L.meaning) p (at lives.old j).state.known }
     ensures hears { OnOk result (Hears L.meaning j (p + 1) 1 lives.old lives.new) }
-    ensures heard { OnOk result
-        (p ≢ j → HearsReport L.meaning (at lives.old p) (at lives.old j) (at lives.new j)) }
-    ensures itself { OnOk result (p ≡ j → lives.new ≡ lives.old) }
+    ensures heard { OnOk result (HearsOther L.meaning j p lives.old lives.new) }
 {
     if p == j {
         return Ok(());

@@ -16,5 +16,5 @@ loop-p-preserved g c =
     let h = c.in_ok-hear_one.ensures in (
       one_heard t c.args.j c.loop-p.p c.args.lives.now c.loop-p.lives c.hear_one.new.lives is.0 h.hears,
       one_more_heard t c.args.j c.loop-p.p c.args.lives.now c.loop-p.lives c.hear_one.new.lives is.1 is.0.only
-          h.itself h.heard,
+          h.heard.itself h.heard.heard,
     )
