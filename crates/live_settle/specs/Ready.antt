@@ -97,6 +97,12 @@ pub record IsGathering (t : Meaning) (l : Living) : Type 0 where
 abbrev pub AreGathering : Meaning → List Living → Type 0
 AreGathering t ls = (p : ℕ) → p < length ls → IsGathering t (at ls p)
 
+-- The member at place `j` can fetch: all are ready, and it knows of all lists.
+pub record CanGather (t : Meaning) (j : ℕ) (ls : List Living) : Type 0 where
+  pub ready : AreReady t ls
+  pub there : j < length ls
+  pub gathering : IsGathering t (at ls j)
+
 -- ---- what comes
 
 -- The parts of the lists that a member doesn't hold.

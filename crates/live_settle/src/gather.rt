@@ -1,5 +1,5 @@
-ghost use Rattle.std.specs.Prelude.{◌≡◌, ◌<◌, ◌≤◌, length, IfOk, OnOk};
-ghost use Rattle.live_settle.specs.Ready.{at, AreReady, HasRoom, IsGathering, AreGathering, AreJoined, Joins};
+ghost use Rattle.std.specs.Prelude.{◌≡◌, ◌≤◌, length, IfOk, OnOk};
+ghost use Rattle.live_settle.specs.Ready.{at, AreReady, HasRoom, AreGathering, CanGather, AreJoined, Joins};
 ghost use Rattle.live_settle.specs.Ready.{AfterTurn, EntersTurn, KeepPrefixes};
 
 use live_member::{Lists, Live, LiveReply};
@@ -34,9 +34,7 @@ fn gather<L: Lists>(
     j: usize,
 ) -> Result<(), AllocError>
     requires group { g.now ≡ L.meaning.group }
-    requires ready { AreReady L.meaning lives.old }
-    requires there { j < length lives.old }
-    requires gathering { IsGathering L.meaning (at lives.old j) }
+    requires can { CanGather L.meaning j lives.old }
     requires room { length (at lives.old j).journal ≤ 900232 }
     ensures { OnOk result (Joins L.meaning j lives.old lives.new) }
 {
@@ -52,9 +50,7 @@ fn turn<L: Lists>(
     j: usize,
 ) -> Result<bool, AllocError>
     requires group { g.now ≡ L.meaning.group }
-    requires ready { AreReady L.meaning lives.old }
-    requires there { j < length lives.old }
-    requires gathering { IsGathering L.meaning (at lives.old j) }
+    requires can { CanGather L.meaning j lives.old }
     requires room { length (at lives.old j).journal ≤ 999000 }
     ensures turned { IfOk result (AfterTurn L.meaning j lives.old lives.new) }
     ensures entries { IfOk result (EntersTurn (at lives.old j) (at lives.new j)) }

@@ -4,13 +4,19 @@ use Rattle.live_settle.proofs.Places.{ready_still}
 use Rattle.live_settle.proofs.gather.gather.Goals as goal
 
 pub loop-init : goal.loop-init
-loop-init g c = no_turn g.L.Lists.meaning c.args.j c.args.lives.now c.requires.gathering
+loop-init g c = no_turn g.L.Lists.meaning c.args.j c.args.lives.now c.requires.can.gathering
 
-pub turn-requires-clause-ready : goal.turn-requires-clause-ready
-turn-requires-clause-ready g c =
+pub turn-requires-clause-can : goal.turn-requires-clause-can
+turn-requires-clause-can g c =
     let is = c.loop.invariant in
-    ready_still c.args.j c.args.lives.now c.loop.lives is.only g.L.Lists.meaning c.requires.there c.requires.ready
-    is.gathering.ready
+    let can = c.requires.can in
+    record {
+      ready =
+          ready_still c.args.j c.args.lives.now c.loop.lives is.only g.L.Lists.meaning can.there can.ready
+          is.gathering.ready;
+      there = omega (arith, can.there, is.only.width);
+      gathering = is.gathering;
+    }
 
 pub turn-requires-clause-room : goal.turn-requires-clause-room
 turn-requires-clause-room g c =
