@@ -10,7 +10,7 @@ use Rattle.repo_plan.specs.declared.part.Part.{Part}
 use Rattle.live_member.specs.Meanings.{Meaning, as_posts, objects_of}
 use Rattle.live_member.specs.Lives.{Living, IsLive}
 use Rattle.live_member.specs.LockedCalls.{IsNext}
-use Rattle.live_settle.specs.Ready.{Continues, IsReady}
+use Rattle.live_settle.specs.Ready.{Continues, MakesReady}
 use Rattle.live_settle.proofs.Prefixes.{continues_itself, continues_with, continues_on}
 
 one_in_sum : {X : Type 0} (xs : List (List X)) (j : ℕ) → length (get_or xs j []) ≤ sum_by length xs
@@ -95,9 +95,14 @@ no_claims_left (suc n) (c ∷ cs) e h =
     let rest : cs ≡ replicate n None = no_claims_left n cs (omega (arith, e)) (λ k l. h (suc k) (omega (arith, l))) in
     λ i. one i ∷ rest i
 
-pub all_lost : (t : Meaning) (old l : Living) → IsLosing t 16 old l → IsReady t l
+pub all_lost : (t : Meaning) (old l : Living) → IsLosing t 16 old l → MakesReady t 900216 old l
 all_lost t old l is = record {
-  live = is.live;
-  unpublished = is.unpublished;
-  claims = no_claims_left 16 l.state.claims is.live.consistent.sound.fetchers is.none;
+  ready = record {
+    live = is.live;
+    unpublished = is.unpublished;
+    claims = no_claims_left 16 l.state.claims is.live.consistent.sound.fetchers is.none;
+  };
+  number = is.number;
+  entries = omega (arith, is.few);
+  prefix = is.prefix;
 }

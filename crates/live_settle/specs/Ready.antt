@@ -70,6 +70,13 @@ pub record IsReady (t : Meaning) (l : Living) : Type 0 where
   pub unpublished : l.unpublished ≡ []
   pub claims : l.state.claims ≡ no_claims
 
+-- A member was made ready, with so many entries in its journal at most. Its journal begins with the one that it had.
+pub record MakesReady (t : Meaning) (most : ℕ) (old new : Living) : Type 0 where
+  pub ready : IsReady t new
+  pub number : new.state.number ≡ old.state.number
+  pub entries : length new.journal ≤ most
+  pub prefix : Continues old.journal new.journal
+
 -- All members are in their places, and each is ready for a settle.
 pub record AreReady (t : Meaning) (ls : List Living) : Type 0 where
   pub placed : ArePlaced t ls

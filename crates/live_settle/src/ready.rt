@@ -1,7 +1,7 @@
 ghost use Rattle.std.specs.Prelude.{◌≡◌, ◌<◌, ◌≤◌, length, [], OnOk};
 ghost use Rattle.repo_plan.specs.Calls.{IsFetcher};
 ghost use Rattle.live_member.specs.Lives.{IsLive};
-ghost use Rattle.live_settle.specs.Ready.{AreLive, ArePlaced, AreReady, HasRoom, IsReady, Loses};
+ghost use Rattle.live_settle.specs.Ready.{AreLive, ArePlaced, AreReady, HasRoom, Loses, MakesReady};
 ghost use Rattle.live_settle.specs.Ready.{Continues, KeepPrefixes};
 
 use live_member::{Lists, Live, NextTold};
@@ -31,10 +31,7 @@ fn ready<L: Lists>(g: &Group, live: &mut Live<L, 1000000>) -> Result<(), AllocEr
     requires group { g.now ≡ L.meaning.group }
     requires live { IsLive L.meaning 1000000 live.old }
     requires room { length live.old.journal ≤ 900000 }
-    ensures ready { OnOk result (IsReady L.meaning live.new) }
-    ensures number { OnOk result (live.new.state.number ≡ live.old.state.number) }
-    ensures entries { OnOk result (length live.new.journal ≤ 900216) }
-    ensures prefix { OnOk result (Continues live.old.journal live.new.journal) }
+    ensures { OnOk result (MakesReady L.meaning 900216 live.old live.new) }
 {
     publish_rest(g, live)?;
     lose_claims(g, live)
@@ -60,10 +57,7 @@ fn lose_claims<L: Lists>(g: &Group, live: &mut Live<L, 1000000>) -> Result<(), A
     requires live { IsLive L.meaning 1000000 live.old }
     requires unpublished { live.old.unpublished ≡ [] }
     requires room { length live.old.journal ≤ 900200 }
-    ensures ready { OnOk result (IsReady L.meaning live.new) }
-    ensures number { OnOk result (live.new.state.number ≡ live.old.state.number) }
-    ensures entries { OnOk result (length live.new.journal ≤ 900216) }
-    ensures prefix { OnOk result (Continues live.old.journal live.new.journal) }
+    ensures { OnOk result (MakesReady L.meaning 900216 live.old live.new) }
 {
     for earlier in 0..LAST_FETCHER {
         lose_claim(g, live, earlier + 1)?;
