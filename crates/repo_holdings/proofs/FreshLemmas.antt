@@ -1,6 +1,6 @@
 -- Entries that wait to be put among the others or to be removed, and digests that are reported before an entry is made.
 use Rattle.std.proofs.Common.{◌≡◌, ℕ, ◌+◌, ◌≤◌, Bool, true, false, cond, not, ◌&&◌, ◌||◌, List, [], ◌∷◌, ◌++◌, length}
-use Rattle.std.proofs.Common.{refl}
+use Rattle.std.proofs.Common.{refl, length-append, vec_capacity}
 use Rattle.std.proofs.Common.{sym, ap, ◌∙◌, subst, Option, Some, None, is_some, unwrap_or, zero, suc, arith}
 use Rattle.std.specs.Prelude.{IfSome, filter}
 use Rattle.std.specs.List.{All, flat_map, list_all}
@@ -16,7 +16,6 @@ use Rattle.sorted_lists.proofs.Sets.{eq_same, eq_itself, value_of-with_value, co
 use Rattle.repo_plan.specs.declared.part.Part.{Part}
 use Rattle.repo_plan.specs.declared.shape.Shape.{Shape}
 use Rattle.repo_plan.specs.Parts.{Pair, pair_cmp, part_cmp, pair_of, part_of, last_part}
-use Rattle.repo_plan.specs.Plan.{PlanState, holds, may_be_asked_for}
 use Rattle.repo_plan.proofs.Orders.{exact_pairs, exact_parts}
 use Rattle.repo_object.specs.Publication.{Listed}
 use Rattle.repo_store.specs.StoreList.{with_packet}
@@ -37,14 +36,18 @@ use Rattle.repo_holdings.specs.Listed.{entry_of_listing, entry_listed, whole_at,
 use Rattle.repo_holdings.specs.Listed.{member_catalogue}
 use Rattle.repo_holdings.specs.declared.contents.ContentsDigest.{ContentsDigest}
 use Rattle.repo_holdings.specs.Contents.{IsDigestOfEntry, IsDigestIn}
-use Rattle.repo_holdings.specs.Noted.{NotesState, AreNotes}
-use Rattle.repo_holdings.specs.Gaining.{AreTied, IsArrival}
-use Rattle.repo_holdings.specs.Changing.{changed, change_by, lists_entry, withdraws_too}
-use Rattle.repo_holdings.specs.Taking.{Fetched, with_fetched, with_all_fetched, AreApartPairs, AreListedWith}
+use Rattle.repo_holdings.specs.declared.holdings.pending.Pending.{Pending}
+use Rattle.repo_holdings.specs.declared.holdings.stock.Stock.{Stock}
+use Rattle.repo_holdings.specs.Noted.{NotesState}
+use Rattle.repo_holdings.specs.Gaining.{IsArrival, IsMissing}
+use Rattle.repo_holdings.specs.Stock.{IsSound}
+use Rattle.repo_holdings.specs.Changing.{changed, change_by, lists_entry, withdraws_too, fresh_with, gone_with}
+use Rattle.repo_holdings.specs.Taking.{Fetched, with_fetched, with_all_fetched, AreApartPairs, AreListedWith, IsChange}
+use Rattle.repo_holdings.specs.Taking.{HaveWaited}
 use Rattle.repo_holdings.proofs.CatalogueLemmas.{entry_of_alone, entry_is_of, entry_of_none, entry_not_withdrawn}
 use Rattle.repo_holdings.proofs.CatalogueLemmas.{none_is_some, alone_in_order}
 use Rattle.repo_holdings.proofs.GainingLemmas.{contains-value}
-use Rattle.repo_holdings.proofs.StepLemmas.{rises_now, before_now, withdrawn_now}
+use Rattle.repo_holdings.proofs.StepLemmas.{rises_now, before_now, withdrawn_now, changed_now}
 
 -- ---- entries that wait
 
@@ -192,17 +195,6 @@ listed_less fresh entries gone packets after w is r later absent now withdrawn l
         go false true = refl
         go false false = refl
 
--- what waits after a change
-abbrev pub fresh_with : List Entry → Change → List Entry
-fresh_with fresh Nothing = fresh
-fresh_with fresh (Lists e) = fresh ++ e ∷ []
-fresh_with fresh (Removes publisher seq) = fresh
-
-abbrev pub gone_with : List Pair → Change → List Pair
-gone_with gone Nothing = gone
-gone_with gone (Lists e) = gone
-gone_with gone (Removes publisher seq) = gone ++ (publisher, seq) ∷ []
-
 -- the change that a publication's packets make, which had no entry
 module _ (packets after : List Packet) (pair : Pair) (notes : NotesState) (summary : Option RecordSummary)
     (change : Change)
@@ -271,7 +263,7 @@ module _ (packets after : List Packet) (pair : Pair) (notes : NotesState) (summa
     go true p = sym (is.withdrawn q p) ∙ h
     go false p = refl
 
-  pub listed_changed : (c : Change) → change ≡ c → AreListedWith (fresh_with fresh c) (gone_with gone c) entries after
+  listed_changed : (c : Change) → change ≡ c → AreListedWith (fresh_with fresh c) (gone_with gone c) entries after
   listed_changed Nothing h = record {
     listed = is.listed ∙ sym (listed ∙ ap (λ (x : Change). changed x (member_catalogue packets)) h);
     withdrawn = withdrawn_still;
@@ -296,25 +288,46 @@ module _ (packets after : List Packet) (pair : Pair) (notes : NotesState) (summa
       (sym (now (publisher, seq)) ∙ or_left (withdraws_too pair summary (publisher, seq)) _ both.1)
       withdrawn_still (listed ∙ ap (λ (x : Change). changed x (member_catalogue packets)) h)
 
--- after a part has come
-pub gained_waits : (plan : PlanState) (packets after : List Packet) (notes : NotesState) (t : Part) (octets : List ℕ)
-    (summary : Option RecordSummary) (change : Change) (fresh entries : List Entry) (gone : List Pair)
-    → AreTied plan packets
-    → AreNotes notes packets → IsArrival packets t octets summary → may_be_asked_for plan t ≡ true
-    → holds plan t ≡ false
-    → after ≡ with_packet t octets packets
-    → change ≡ change_by notes.withdrawn (pair_of t) summary (entry_at after (pair_of t))
-    → member_catalogue after ≡ changed change (member_catalogue packets)
-    → (c : Change) → change ≡ c → AreListedWith fresh gone entries packets
-    → AreListedWith (fresh_with fresh c) (gone_with gone c) entries after
-gained_waits plan packets after notes t octets summary change fresh entries gone tied noted arrival asked missing puts
-    made
-    listed c is_change is =
-    listed_changed packets after (pair_of t) notes summary change fresh entries gone tied.in_order
-    (rises_now plan packets after notes t octets summary tied noted arrival asked missing puts)
-    (before_now plan packets after notes t octets summary tied noted arrival asked missing puts) noted.withdrawn
-    (withdrawn_now plan packets after notes t octets summary tied noted arrival asked missing puts) made listed is c
-    is_change
+-- the change that a part makes that has come
+pub change_is : (s : Stock) (after : List Packet) (t : Part) (octets : List ℕ) (summary : Option RecordSummary)
+    (change : Change)
+    → IsSound s → IsArrival s.store.packets t octets summary → IsMissing s.plan t
+    → after ≡ with_packet t octets s.store.packets
+    → change ≡ change_by s.notes.withdrawn (pair_of t) summary (entry_at after (pair_of t))
+    → IsChange change s.store.packets after
+change_is s after t octets summary change sound arrival missing puts made = record {
+  listed = listed;
+  waits = λ fresh entries gone is.
+      listed_changed s.store.packets after (pair_of t) s.notes summary change fresh entries gone sound.tied.in_order
+      (rises_now s after t octets summary sound arrival missing puts)
+      (before_now s after t octets summary sound arrival missing puts) sound.noted.withdrawn
+      (withdrawn_now s after t octets summary sound arrival missing puts) made listed is change refl;
+} where
+  listed : member_catalogue after ≡ changed change (member_catalogue s.store.packets)
+  listed =
+      changed_now s after t octets summary sound arrival missing puts
+      ∙ ap (λ (c : Change). changed c (member_catalogue s.store.packets)) (sym made)
+
+-- it is one more at most
+few_more : (change : Change) (fresh : List Entry) (gone : List Pair)
+    → (length (fresh_with fresh change) ≤ length fresh + 1) × (length (gone_with gone change) ≤ length gone + 1)
+few_more Nothing fresh gone = (omega arith, omega arith)
+few_more (Lists e) fresh gone = (omega (arith, length-append fresh (e ∷ [])), omega arith)
+few_more (Removes publisher seq) fresh gone = (omega arith, omega (arith, length-append gone ((publisher, seq) ∷ [])))
+
+-- a change waits, as the others do
+pub waits_more : (change : Change) (old new : Pending) (packets after : List Packet)
+    → new.fresh.items ≡ fresh_with old.fresh.items change → new.gone.items ≡ gone_with old.gone.items change
+    → vec_capacity old.fresh ≤ vec_capacity new.fresh → vec_capacity old.gone ≤ vec_capacity new.gone
+    → IsChange change packets after → HaveWaited 1 old new packets after
+waits_more change old new packets after fresh gone fresh_room gone_room is = record {
+  few_fresh =
+      omega (arith, ap (λ (es : List Entry). length es) fresh, (few_more change old.fresh.items old.gone.items).0);
+  few_gone = omega (arith, ap (λ (qs : List Pair). length qs) gone, (few_more change old.fresh.items old.gone.items).1);
+  fresh_room = fresh_room;
+  gone_room = gone_room;
+  listed = λ entries was. rw (fresh, gone) (is.waits old.fresh.items entries old.gone.items was);
+}
 
 -- ---- what is stored stays
 

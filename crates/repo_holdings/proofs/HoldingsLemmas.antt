@@ -25,27 +25,27 @@ use Rattle.repo_holdings.specs.HoldingsFields.{state, IsHoldings}
 use Rattle.repo_holdings.proofs.AskedLemmas.{asked_segment}
 
 -- the plan is that of what is seen, with what is spare
-pub plan_is : (m : Inside) → IsHoldings m → m.plan ≡ record (held_plan (state m)) { spare = m.plan.spare }
+pub plan_is : (m : Inside) → IsHoldings m → m.stock.plan ≡ record (held_plan (state m)) { spare = m.stock.plan.spare }
 plan_is m is =
-    same_holdings m.plan (record (held_plan (state m)) { spare = m.plan.spare }) refl is.kept.tied.held
+    same_holdings m.stock.plan (record (held_plan (state m)) { spare = m.stock.plan.spare }) refl is.kept.tied.held
     is.kept.tied.shapes refl refl refl refl
 
 -- a reading that looks at no room is that of what is seen
 pub reading : {A : Type 0} (f : PlanState → A) (m : Inside) (h : HoldingsState) → IsHoldings m → state m ≡ h
-    → f (record (held_plan (state m)) { spare = m.plan.spare }) ≡ f (held_plan (state m))
-    → f m.plan ≡ f (held_plan h)
+    → f (record (held_plan (state m)) { spare = m.stock.plan.spare }) ≡ f (held_plan (state m))
+    → f m.stock.plan ≡ f (held_plan h)
 reading f m h is view same = ap f (plan_is m is) ∙ same ∙ ap (λ (x : HoldingsState). f (held_plan x)) view
 
 -- what is asked for, as its plan has it
 pub asked_of : (m : Inside) (h : HoldingsState) (t : Part) → IsHoldings m → state m ≡ h
-    → may_be_asked_for (held_plan h) t ≡ true → may_be_asked_for m.plan t ≡ true
+    → may_be_asked_for (held_plan h) t ≡ true → may_be_asked_for m.stock.plan t ≡ true
 asked_of m h t is view asked = reading (λ p. may_be_asked_for p t) m h is view refl ∙ asked
 
 -- what lists a part that is asked for is stored
 pub segment_of : (m : Inside) (h : HoldingsState) (t : Part) → IsHoldings m → state m ≡ h
-    → may_be_asked_for (held_plan h) t ≡ true → (t.part == 0) ≡ false → HasParent m.store.packets t
+    → may_be_asked_for (held_plan h) t ≡ true → (t.part == 0) ≡ false → HasParent m.stock.store.packets t
 segment_of m h t is view asked following =
-    asked_segment m.plan m.store.packets t is.kept.tied (asked_of m h t is view asked) following
+    asked_segment m.stock.plan m.stock.store.packets t is.kept.tied (asked_of m h t is view asked) following
 
 pub not_zero : (n : ℕ) → (n ≡ 0 → ⊥) → (n == 0) ≡ false
 not_zero n h = false_from_ne_true (n == 0) (λ e. h (eqb-true n 0 e))

@@ -379,7 +379,7 @@ room_kept t shape plan = go (holds plan t) where
 
 -- a new publication is new to the plan
 pub new_in : (m : Inside) (h : HoldingsState) (pair : Pair) → IsHoldings m → state m ≡ h → IsNew (held_plan h) pair
-    → IsNew m.plan pair
+    → IsNew m.stock.plan pair
 new_in m h pair is view new =
     let here : IsNew (held_plan (state m)) pair =
     subst (λ (x : HoldingsState). IsNew (held_plan x) pair) (sym view) new in
@@ -392,6 +392,6 @@ new_in m h pair is view new =
 
 -- and nothing is stored of it
 pub new_absent : (m : Inside) (h : HoldingsState) (pair : Pair) → state m ≡ h → IsNew (held_plan h) pair
-    → contains part_cmp (keys m.store.packets) (part_of pair 0) ≡ false
+    → contains part_cmp (keys m.stock.store.packets) (part_of pair 0) ≡ false
 new_absent m h pair view new =
     ap (λ (x : HoldingsState). contains part_cmp (keys x.store) (part_of pair 0)) view ∙ new.not_held 0

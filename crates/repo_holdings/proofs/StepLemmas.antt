@@ -10,7 +10,6 @@ use Rattle.sorted_lists.specs.SortedList.{keys, Rises, contains, value_of}
 use Rattle.sorted_lists.proofs.Sets.{eq_same, eq_itself}
 use Rattle.repo_plan.specs.declared.part.Part.{Part}
 use Rattle.repo_plan.specs.Parts.{Pair, pair_cmp, part_cmp, pair_of, part_of}
-use Rattle.repo_plan.specs.Plan.{PlanState, holds, may_be_asked_for}
 use Rattle.repo_plan.proofs.Orders.{exact_pairs}
 use Rattle.repo_object.specs.Publication.{Listed}
 use Rattle.repo_object.specs.Verdict.{stated_in}
@@ -22,9 +21,10 @@ use Rattle.repo_holdings.specs.declared.record_summary.RecordSummary.TheVariants
 use Rattle.repo_holdings.specs.Records.{Packet}
 use Rattle.repo_holdings.specs.Listed.{stored_at, listing_in, stated_at, listing_at, whole_at, entry_at, entry_listed}
 use Rattle.repo_holdings.specs.Listed.{withdraws, is_withdrawn, member_catalogue}
-use Rattle.repo_holdings.specs.Noted.{NotesState, AreNotes}
-use Rattle.repo_holdings.specs.Gaining.{AreTied, IsArrival, summary_of, with_listed}
-use Rattle.repo_holdings.specs.Changing.{changed, change_by, lists_entry, withdraws_too}
+use Rattle.repo_holdings.specs.declared.holdings.stock.Stock.{Stock}
+use Rattle.repo_holdings.specs.Gaining.{IsArrival, IsMissing, summary_of, with_listed}
+use Rattle.repo_holdings.specs.Stock.{IsSound}
+use Rattle.repo_holdings.specs.Changing.{changed, change_by, lists_entry, withdraws_too, IsSaidNewly}
 use Rattle.repo_holdings.proofs.CatalogueLemmas.{relisted, unlisted, same_entry, entry_of_none}
 use Rattle.repo_holdings.proofs.WithdrawnLemmas.{withdrawn_same, withdrawn_more, withdraws_stated}
 use Rattle.repo_holdings.proofs.NotedLemmas.{withdrawal_lists_none}
@@ -105,31 +105,31 @@ module _ (old new : List Packet) (pair : Pair) (withdrawn : List Pair) (old_orde
 
 -- ---- one packet that came
 
-module _ (plan : PlanState) (packets after : List Packet) (notes : NotesState) (t : Part) (octets : List ℕ)
-    (summary : Option RecordSummary) (tied : AreTied plan packets) (noted : AreNotes notes packets)
-    (arrival : IsArrival packets t octets summary) (asked : may_be_asked_for plan t ≡ true)
-    (missing : holds plan t ≡ false)
-    (puts : after ≡ with_packet t octets packets) where
-  gone : contains part_cmp (keys packets) t ≡ false
-  gone = absent plan packets t octets None tied missing
+module _ (s : Stock) (after : List Packet) (t : Part) (octets : List ℕ) (summary : Option RecordSummary)
+    (sound : IsSound s) (arrival : IsArrival s.store.packets t octets summary) (missing : IsMissing s.plan t)
+    (puts : after ≡ with_packet t octets s.store.packets) where
+  gone : contains part_cmp (keys s.store.packets) t ≡ false
+  gone = absent s.plan s.store.packets t octets None sound.tied missing.not_held
 
   pub others_now : (q : Pair) → eq_by_cmp pair_cmp q (pair_of t) ≡ false → (x : ℕ)
-      → stored_at after q x ≡ stored_at packets q x
+      → stored_at after q x ≡ stored_at s.store.packets q x
   others_now q other x =
-      ap (λ (es : List Packet). stored_at es q x) puts ∙ other_pairs packets t octets gone q other x
+      ap (λ (es : List Packet). stored_at es q x) puts ∙ other_pairs s.store.packets t octets gone q other x
 
-  record_now : stored_at after (pair_of t) 0 ≡ cond (t.part == 0) (Some octets) (stored_at packets (pair_of t) 0)
-  record_now = ap (λ (es : List Packet). stored_at es (pair_of t) 0) puts ∙ record_put packets t octets gone
+  record_now : stored_at after (pair_of t) 0
+      ≡ cond (t.part == 0) (Some octets) (stored_at s.store.packets (pair_of t) 0)
+  record_now = ap (λ (es : List Packet). stored_at es (pair_of t) 0) puts ∙ record_put s.store.packets t octets gone
 
   pub rises_now : Rises part_cmp (keys after)
   rises_now =
-      subst (λ (es : List Packet). Rises part_cmp (keys es)) (sym puts) (put_rises packets t octets gone tied.in_order)
+      subst (λ (es : List Packet). Rises part_cmp (keys es)) (sym puts)
+      (put_rises s.store.packets t octets gone sound.tied.in_order)
 
-  pub before_now : whole_at packets (pair_of t) ≡ None
-  before_now = missing_unlisted plan packets t tied asked missing
+  pub before_now : whole_at s.store.packets (pair_of t) ≡ None
+  before_now = missing_unlisted s.plan s.store.packets t sound.tied missing.free.asked missing.not_held
 
   -- what is reported is said
-  pub stated_now : IfSome summary (λ x. option_map summary_of (stated_at after (pair_of t)) ≡ Some x)
+  stated_now : IfSome summary (λ x. option_map summary_of (stated_at after (pair_of t)) ≡ Some x)
   stated_now = go summary (t.part == 0) refl arrival.tells where
     go : (o : Option RecordSummary) (b : Bool) → (t.part == 0) ≡ b
         → o ≡ cond b (option_map summary_of (stated_in octets)) None
@@ -138,57 +138,63 @@ module _ (plan : PlanState) (packets after : List Packet) (notes : NotesState) (
     go (Some x) false p h = absurd cc
     go (Some x) true p h =
         ap (λ (r : Option (List ℕ)). option_map summary_of (option_and_then stated_in r))
-        (record_now ∙ ap (λ (b : Bool). cond b (Some octets) (stored_at packets (pair_of t) 0)) p)
+        (record_now ∙ ap (λ (b : Bool). cond b (Some octets) (stored_at s.store.packets (pair_of t) 0)) p)
         ∙ sym h
 
   following : summary ≡ None → (t.part == 0) ≡ false
   following none = sym arrival.record_part ∙ ap is_some none
 
   -- the name of the object is noted, if it is not reported now
-  pub named_now : summary ≡ None
-      → IsSomeAnd (listing_at after (pair_of t)) (λ l. value_of pair_cmp notes.names (pair_of t) ≡ Some l.name)
+  named_now : summary ≡ None
+      → IsSomeAnd (listing_at after (pair_of t)) (λ l. value_of pair_cmp s.notes.names (pair_of t) ≡ Some l.name)
   named_now none =
-      let segment = asked_segment plan packets t tied asked (following none) in
+      let segment = asked_segment s.plan s.store.packets t sound.tied missing.free.asked (following none) in
       let listed : listing_at after (pair_of t) ≡ Some segment.listing =
       ap (option_and_then listing_in)
-      (record_now ∙ ap (λ (b : Bool). cond b (Some octets) (stored_at packets (pair_of t) 0)) (following none))
+      (record_now ∙ ap (λ (b : Bool). cond b (Some octets) (stored_at s.store.packets (pair_of t) 0)) (following none))
       ∙ segment.listed in
-      subst (λ (o : Option Listed). IsSomeAnd o (λ l. value_of pair_cmp notes.names (pair_of t) ≡ Some l.name))
-      (sym listed) (noted.names (pair_of t) segment.listing segment.listed before_now)
+      subst (λ (o : Option Listed). IsSomeAnd o (λ l. value_of pair_cmp s.notes.names (pair_of t) ≡ Some l.name))
+      (sym listed) (sound.noted.names (pair_of t) segment.listing segment.listed before_now)
 
   -- what is withdrawn
   pub withdrawn_now : (q : Pair)
-      → (withdraws_too (pair_of t) summary q || contains pair_cmp notes.withdrawn q) ≡ is_withdrawn after q
+      → (withdraws_too (pair_of t) summary q || contains pair_cmp s.notes.withdrawn q) ≡ is_withdrawn after q
   withdrawn_now q = go summary (t.part == 0) refl arrival.tells arrival.record_part stated_now where
-    others_then : (k : Pair) → eq_by_cmp pair_cmp k (pair_of t) ≡ false → stored_at after k 0 ≡ stored_at packets k 0
+    others_then : (k : Pair) → eq_by_cmp pair_cmp k (pair_of t) ≡ false
+        → stored_at after k 0 ≡ stored_at s.store.packets k 0
     others_then k other = others_now k other 0
 
     go : (o : Option RecordSummary) (b : Bool) → (t.part == 0) ≡ b
         → o ≡ cond b (option_map summary_of (stated_in octets)) None → is_some o ≡ b
         → IfSome o (λ x. option_map summary_of (stated_at after (pair_of t)) ≡ Some x)
-        → (withdraws_too (pair_of t) o q || contains pair_cmp notes.withdrawn q) ≡ is_withdrawn after q
+        → (withdraws_too (pair_of t) o q || contains pair_cmp s.notes.withdrawn q) ≡ is_withdrawn after q
     go None true p h is says = absurd (true≢false (sym is))
     go (Some x) false p h is says = absurd (true≢false is)
     go None false p h is says =
-        noted.withdrawn q
-        ∙ sym (withdrawn_same packets after (pair_of t) tied.in_order rises_now others_then
-        (record_now ∙ ap (λ (b : Bool). cond b (Some octets) (stored_at packets (pair_of t) 0)) p) q)
+        sound.noted.withdrawn q
+        ∙ sym (withdrawn_same s.store.packets after (pair_of t) sound.tied.in_order rises_now others_then
+        (record_now ∙ ap (λ (b : Bool). cond b (Some octets) (stored_at s.store.packets (pair_of t) 0)) p) q)
     go (Some x) true p h is says =
-        ap (λ (b : Bool). b || contains pair_cmp notes.withdrawn q)
+        ap (λ (b : Bool). b || contains pair_cmp s.notes.withdrawn q)
         (sym (withdraws_stated (pair_of t) octets x (sym h) q))
-        ∙ ap (λ (b : Bool). withdraws q (pair_of t, octets) || b) (noted.withdrawn q)
-        ∙ sym (withdrawn_more packets after (pair_of t) tied.in_order rises_now others_then octets
-        (none_before (stored_at packets (pair_of t) 0)
-        (sym (contains-value packets (part_of (pair_of t) 0))
-        ∙ ap (contains part_cmp (keys packets)) (ap (part_of (pair_of t)) (sym (eqb-true t.part 0 p)))
+        ∙ ap (λ (b : Bool). withdraws q (pair_of t, octets) || b) (sound.noted.withdrawn q)
+        ∙ sym (withdrawn_more s.store.packets after (pair_of t) sound.tied.in_order rises_now others_then octets
+        (none_before (stored_at s.store.packets (pair_of t) 0)
+        (sym (contains-value s.store.packets (part_of (pair_of t) 0))
+        ∙ ap (contains part_cmp (keys s.store.packets)) (ap (part_of (pair_of t)) (sym (eqb-true t.part 0 p)))
         ∙ gone))
-        (record_now ∙ ap (λ (b : Bool). cond b (Some octets) (stored_at packets (pair_of t) 0)) p) q) where
+        (record_now ∙ ap (λ (b : Bool). cond b (Some octets) (stored_at s.store.packets (pair_of t) 0)) p) q) where
           none_before : (o : Option (List ℕ)) → is_some o ≡ false → o ≡ None
           none_before None h = refl
           none_before (Some x) h = absurd (true≢false h)
 
   pub changed_now : member_catalogue after
-      ≡ changed (change_by notes.withdrawn (pair_of t) summary (entry_at after (pair_of t))) (member_catalogue packets)
+      ≡ changed (change_by s.notes.withdrawn (pair_of t) summary (entry_at after (pair_of t)))
+      (member_catalogue s.store.packets)
   changed_now =
-      catalogue_changed packets after (pair_of t) notes.withdrawn tied.in_order rises_now others_now before_now
-      noted.withdrawn summary stated_now withdrawn_now
+      catalogue_changed s.store.packets after (pair_of t) s.notes.withdrawn sound.tied.in_order rises_now others_now
+      before_now sound.noted.withdrawn summary stated_now withdrawn_now
+
+  -- this is said newly
+  pub said_now : IsSaidNewly (pair_of t) summary s.notes after
+  said_now = record { summary = stated_now; named = named_now; withdrawn = withdrawn_now }

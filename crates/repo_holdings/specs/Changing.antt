@@ -1,5 +1,6 @@
 -- How notes and catalogues change by what is stored newly of one publication.
-use Rattle.std.specs.Prelude.{◌≡◌, Bool, false, List, Option, Some, None, if◌then◌else◌}
+use Rattle.std.specs.Prelude.{◌≡◌, Bool, false, ◌||◌, List, [], ◌∷◌, ◌++◌, Option, Some, None, if◌then◌else◌}
+use Rattle.std.specs.Prelude.{IfSome, IsSomeAnd, option_map}
 use Rattle.std.specs.Ordering.{eq_by_cmp}
 use Rattle.sorted_lists.specs.SortedList.{contains, value_of}
 use Rattle.repo_plan.specs.Parts.{Pair, pair_cmp}
@@ -11,14 +12,27 @@ use Rattle.repo_holdings.specs.declared.changes.Change.TheVariants.{Nothing, Lis
 use Rattle.repo_holdings.specs.declared.record_summary.RecordSummary.{RecordSummary}
 use Rattle.repo_holdings.specs.declared.record_summary.RecordSummary.TheVariants.{Object, Withdrawal}
 use Rattle.repo_holdings.specs.Records.{Packet}
-use Rattle.repo_holdings.specs.Listed.{listing_at, whole_at, is_withdrawn}
+use Rattle.repo_holdings.specs.Listed.{stated_at, listing_at, whole_at, is_withdrawn}
 use Rattle.repo_holdings.specs.Noted.{NotesState}
+use Rattle.repo_holdings.specs.Gaining.{summary_of}
 
 -- the catalogue after a change
 abbrev pub changed : Change → List Entry → List Entry
 changed Nothing entries = entries
 changed (Lists e) entries = with_entry e entries
 changed (Removes publisher seq) entries = without (publisher, seq) entries
+
+-- the entries that wait to be listed, with that of a change
+abbrev pub fresh_with : List Entry → Change → List Entry
+fresh_with fresh Nothing = fresh
+fresh_with fresh (Lists e) = fresh ++ e ∷ []
+fresh_with fresh (Removes publisher seq) = fresh
+
+-- the publications that wait to be removed, with that of a change
+abbrev pub gone_with : List Pair → Change → List Pair
+gone_with gone Nothing = gone
+gone_with gone (Lists e) = gone
+gone_with gone (Removes publisher seq) = gone ++ (publisher, seq) ∷ []
 
 -- whether a publication is withdrawn by what is said of another
 abbrev pub withdraws_too : Pair → Option RecordSummary → Pair → Bool
@@ -38,6 +52,16 @@ change_by withdrawn pair None entry = lists_entry entry
 change_by withdrawn pair (Some (Object shape name)) entry = lists_entry entry
 change_by withdrawn pair (Some (Withdrawal seq)) entry =
     if contains pair_cmp withdrawn (pair.0, seq) then Nothing else Removes pair.0 seq
+
+-- this is newly said of a publication: its stored record says it, or the notes name its object already, and with it the
+-- notes have what is withdrawn
+pub record IsSaidNewly (pair : Pair) (said : Option RecordSummary) (notes : NotesState) (packets : List Packet) : Type 0
+  where
+    pub summary : IfSome said (λ x. option_map summary_of (stated_at packets pair) ≡ Some x)
+    pub named : said ≡ None → IsSomeAnd (listing_at packets pair)
+        (λ l. value_of pair_cmp notes.names pair ≡ Some l.name)
+    pub withdrawn : (q : Pair)
+        → (withdraws_too pair said q || contains pair_cmp notes.withdrawn q) ≡ is_withdrawn packets q
 
 -- the notes after that: the publications that are withdrawn, the publication's name as long as it is not stored wholly,
 -- and the others' names

@@ -1,12 +1,13 @@
 -- The plan, the packets, the notes and the catalogue of a member, which belong together, and packets that come.
-use Rattle.std.specs.Prelude.{◌≡◌, ℕ, ◌+◌, ◌≤◌, true, List, Option, Some, None, option_map, is_some, IsOk, ◌==◌}
+use Rattle.std.specs.Prelude.{◌≡◌, ℕ, ◌+◌, ◌≤◌, true, false, List, Option, Some, None, option_map, is_some, IsOk, ◌==◌}
 use Rattle.std.specs.Prelude.{if◌then◌else◌}
 use Rattle.ndn_data.specs.Data.{data_of}
 use Rattle.repo_plan.specs.declared.part.Part.{Part}
 use Rattle.repo_plan.specs.Parts.{Pair, part_cmp, shape_of_segments}
 use Rattle.repo_plan.specs.declared.shape.Shape.{Shape}
 use Rattle.sorted_lists.specs.SortedList.{Rises, keys, value_of}
-use Rattle.repo_plan.specs.Plan.{PlanState}
+use Rattle.repo_plan.specs.Plan.{PlanState, holds}
+use Rattle.repo_plan.specs.Sound.{CanBeHeld}
 use Rattle.repo_object.specs.Publication.{RecordSays}
 use Rattle.repo_object.specs.Publication.RecordSays.{Lists, WithdrawsNumber}
 use Rattle.repo_object.specs.Verdict.{stated_in}
@@ -53,6 +54,22 @@ pub record HaveRoom (n : ℕ) (plan : PlanState) (store : StoreList) (notes : No
     pub for_notes : n ≤ notes.spare
     pub for_catalogue : n ≤ catalogue.spare
 
+-- there is room to hold so many parts
+pub record HaveRoomFor (n : ℕ) (plan : PlanState) (store : StoreList) : Type 0 where
+  pub for_plan : n ≤ plan.spare
+  pub for_store : n ≤ store.spare
+
+-- the room for so many parts was used
+pub record HaveUsed (n : ℕ) (plan : PlanState) (store : StoreList) (plan_now : PlanState) (store_now : StoreList)
+    : Type 0 where
+  pub of_plan : plan_now.spare + n ≡ plan.spare
+  pub of_store : store_now.spare + n ≡ store.spare
+
+-- a part is not held, and may be held from now on
+pub record IsMissing (plan : PlanState) (t : Part) : Type 0 where
+  pub free : CanBeHeld plan t
+  pub not_held : holds plan t ≡ false
+
 -- ---- packets that come
 
 -- what a record says of its publication that says this
@@ -72,6 +89,12 @@ summary_in t octets = if t.part == 0 then option_map summary_of (stated_in octet
 -- which parts its publication has then
 abbrev pub shape_in_summary : Part → List ℕ → Option Shape
 shape_in_summary t octets = option_map summary_shape (summary_in t octets)
+
+-- a packet that may be stored for a part, with the shape that it tells
+pub record IsPacketOf (packets : List Packet) (t : Part) (octets : List ℕ) (told : Option Shape) : Type 0 where
+  pub shape : is_some told ≡ (t.part == 0)
+  pub summary : told ≡ shape_in_summary t octets
+  pub lists : ListsAsMany octets (lists_at packets t)
 
 -- a packet that came for a part, with what it says of its publication
 pub record IsArrival (packets : List Packet) (t : Part) (octets : List ℕ) (summary : Option RecordSummary) : Type

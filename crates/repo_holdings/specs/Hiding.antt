@@ -1,10 +1,13 @@
 -- Publications that are hidden for good.
-use Rattle.std.specs.Prelude.{◌≡◌, List, [], ◌∷◌}
+use Rattle.std.specs.Prelude.{◌≡◌, ℕ, ◌+◌, false, List, [], ◌∷◌}
+use Rattle.std.specs.List.{All}
 use Rattle.repo_plan.specs.Parts.{Pair, pair_cmp}
-use Rattle.sorted_lists.specs.SortedList.{insert_key}
-use Rattle.repo_plan.specs.Plan.{PlanState, after_hide, uses_room}
+use Rattle.sorted_lists.specs.SortedList.{Rises, insert_key}
+use Rattle.repo_plan.specs.Plan.{PlanState, claims_part_in, after_hide, uses_room}
 use Rattle.repo_store.specs.StoreList.{packets_outside}
+use Rattle.repo_holdings.specs.declared.holdings.stock.Stock.{Stock}
 use Rattle.repo_holdings.specs.Records.{Packet}
+use Rattle.repo_holdings.specs.Listed.{is_withdrawal}
 use Rattle.repo_holdings.specs.HoldingsState.{HoldingsState}
 
 -- the packets without those of these publications
@@ -28,6 +31,18 @@ pub record IsHiding (pairs : List Pair) (old new : PlanState) : Type 0 where
   pub claims : new.claims ≡ old.claims
   pub hidden : new.hidden ≡ with_hidden pairs old.hidden
   pub attempts : new.attempts ≡ old.attempts
+
+-- publications that can be hidden: nothing of them is claimed, they are in order, and none is a withdrawal
+pub record CanBeHidden (pairs : List Pair) (s : Stock) : Type 0 where
+  pub unclaimed : All (λ pair. claims_part_in s.plan pair ≡ false) pairs
+  pub in_order : Rises pair_cmp pairs
+  pub objects : All (λ pair. is_withdrawal s.store.packets pair ≡ false) pairs
+
+-- the plan used the room for so many changes, and the other room stays
+pub record LeavesRoom (n : ℕ) (old new : Stock) : Type 0 where
+  pub of_plan : new.plan.spare + n ≡ old.plan.spare
+  pub of_store : new.store.spare ≡ old.store.spare
+  pub of_notes : new.notes.spare ≡ old.notes.spare
 
 -- these publications are hidden, and none of their packets is stored
 abbrev pub hides_all : List Pair → HoldingsState → HoldingsState

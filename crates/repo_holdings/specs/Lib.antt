@@ -22,6 +22,7 @@ pub mod StoredParents
 pub mod Noted
 pub mod HoldingsState
 pub mod Gaining
+pub mod Stock
 pub mod Changing
 pub mod HoldingsFields
 pub mod Taking

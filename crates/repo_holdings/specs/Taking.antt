@@ -1,6 +1,7 @@
 -- What came of parts that were asked for, and how it is taken.
 use Rattle.std.specs.Prelude.{◌≡◌, ℕ, ◌+◌, ◌-◌, ◌<◌, ◌==◌, true, false, List, [], ◌∷◌, map, length, Option, Some, None}
-use Rattle.std.specs.Prelude.{◌≤◌, filter, option_map, unwrap_or, IfSome, if◌then◌else◌}
+use Rattle.std.specs.Prelude.{◌≤◌, ◌^◌, filter, is_some, option_map, unwrap_or, count_by, sum_by, vec_capacity, IfSome}
+use Rattle.std.specs.Prelude.{if◌then◌else◌}
 use Rattle.std.specs.List.{All}
 use Rattle.std.specs.Ordering.{eq_by_cmp}
 use Rattle.repo_plan.specs.declared.part.Part.{Part}
@@ -16,7 +17,13 @@ use Rattle.repo_holdings.specs.Records.{Packet}
 use Rattle.repo_holdings.specs.Listed.{is_withdrawn, member_catalogue}
 use Rattle.repo_holdings.specs.Gaining.{KeepsOthers, IsArrival}
 use Rattle.repo_holdings.specs.HoldingsState.{HoldingsState}
+use Rattle.repo_holdings.specs.declared.changes.Change.{Change}
+use Rattle.repo_holdings.specs.declared.holdings.pending.Pending.{Pending}
+use Rattle.repo_holdings.specs.declared.holdings.stock.Stock.{Stock}
+use Rattle.repo_holdings.specs.declared.holdings.taking.Taken.{Taken}
 use Rattle.repo_holdings.specs.declared.holdings.taking.Tried.{Tried}
+use Rattle.repo_holdings.specs.Changing.{changed, fresh_with, gone_with}
+use Rattle.repo_holdings.specs.Stock.{IsSound, HasRoom}
 
 -- what came of a part that was asked for: its packet, if one came, and how often it was tried
 pub record Fetched : Type 0 where
@@ -110,3 +117,48 @@ pub record AreListedWith (fresh : List Entry) (gone : List Pair) (entries : List
   pub apart : AreApart fresh
   pub apart_gone : AreApartPairs gone
   pub in_order : IsCatalogue entries
+
+-- the change of the catalogue that goes with what is stored newly: it may be made at once, or wait
+pub record IsChange (change : Change) (packets after : List Packet) : Type 0 where
+  pub listed : member_catalogue after ≡ changed change (member_catalogue packets)
+  pub waits : (fresh entries : List Entry) (gone : List Pair) → AreListedWith fresh gone entries packets
+      → AreListedWith (fresh_with fresh change) (gone_with gone change) entries after
+
+-- ---- one after another
+
+-- what is stored is sound, and there is room for so many parts, each of which may be held and be tried, and for as many
+-- changes that wait
+pub record AreReady (n : ℕ) (s : Stock) (p : Pending) : Type 0 where
+  pub sound : IsSound s
+  pub room : HasRoom (n + n) n s
+  pub fresh_room : length p.fresh.items + n ≤ vec_capacity p.fresh
+  pub gone_room : length p.gone.items + n ≤ vec_capacity p.gone
+
+-- tried parts whose count fits a `u32`, and the octets that came for them a `u64`
+pub record AreFew (xs : List Tried) : Type 0 where
+  pub parts : length xs < 2 ^ 32
+  pub octets : sum_by arrival_octets xs < 2 ^ 64
+
+-- all that came of tried parts is stored and counted, and the room for so many was used
+pub record HasTaken (xs : List Tried) (old new : Stock) : Type 0 where
+  pub packets : new.store.packets ≡ with_all_fetched (map came xs) old.store.packets
+  pub attempts : new.plan.attempts ≡ with_all_tries (map came xs) old.plan.attempts
+  pub others : KeepsButTries old.plan new.plan
+  pub plan_room : old.plan.spare ≤ new.plan.spare + (length xs + length xs)
+  pub store_room : old.store.spare ≤ new.store.spare + length xs
+  pub notes_room : old.notes.spare ≤ new.notes.spare + length xs
+
+-- at most so many changes more wait, which bring the catalogue to what is stored now if the others bring it to what was
+-- stored before
+pub record HaveWaited (n : ℕ) (old new : Pending) (packets after : List Packet) : Type 0 where
+  pub few_fresh : length new.fresh.items ≤ length old.fresh.items + n
+  pub few_gone : length new.gone.items ≤ length old.gone.items + n
+  pub fresh_room : vec_capacity old.fresh ≤ vec_capacity new.fresh
+  pub gone_room : vec_capacity old.gone ≤ vec_capacity new.gone
+  pub listed : (entries : List Entry) → AreListedWith old.fresh.items old.gone.items entries packets
+      → AreListedWith new.fresh.items new.gone.items entries after
+
+-- so many parts came, of so many octets
+pub record AreCounted (xs : List Tried) (r : Taken) : Type 0 where
+  pub parts : r.parts ≡ count_by (λ x. is_some x.arrival) xs
+  pub octets : r.octets ≡ sum_by arrival_octets xs

@@ -1,12 +1,12 @@
 // How a catalogue changes by what is stored newly of one publication.
-ghost use Rattle.std.specs.Prelude.{◌≡◌, ◌+◌, ◌<◌, ◌≤◌, ◌||◌, Some, None, IfSome, IsSomeAnd, option_map};
+ghost use Rattle.std.specs.Prelude.{◌≡◌, ◌+◌, ◌<◌, ◌≤◌, Some, IsSomeAnd};
 ghost use Rattle.std.specs.List.{All};
 ghost use Rattle.sorted_lists.specs.SortedList.{contains, value_of};
 ghost use Rattle.repo_plan.specs.Parts.{Pair, pair_cmp};
-ghost use Rattle.repo_holdings.specs.Listed.{listing_at, stated_at, entry_at, is_withdrawn};
+ghost use Rattle.repo_holdings.specs.Listed.{listing_at, entry_at, is_withdrawn};
 ghost use Rattle.repo_holdings.specs.Contents.{IsDigestIn};
-ghost use Rattle.repo_holdings.specs.Gaining.{AreTied, summary_of};
-ghost use Rattle.repo_holdings.specs.Changing.{changed, change_by, withdraws_too, AreNotedWith};
+ghost use Rattle.repo_holdings.specs.Gaining.{AreTied};
+ghost use Rattle.repo_holdings.specs.Changing.{changed, change_by, IsSaidNewly, AreNotedWith};
 
 use crate::contents::{ContentsDigest, given_or_made};
 use crate::notes::Notes;
@@ -54,11 +54,7 @@ pub(crate) fn change_by_summary(
 ) -> Change
     requires room { 0 < notes.old.spare }
     requires tied { AreTied plan.now store.now.packets }
-    requires summary { IfSome summary (λ x. option_map summary_of (stated_at store.now.packets publication) ≡ Some x) }
-    requires named { summary ≡ None → IsSomeAnd (listing_at store.now.packets publication)
-        (λ l. value_of pair_cmp notes.old.names publication ≡ Some l.name) }
-    requires withdrawn { (q : Pair) → (withdraws_too publication summary q || contains pair_cmp notes.old.withdrawn q)
-        ≡ is_withdrawn store.now.packets q }
+    requires said { IsSaidNewly publication summary notes.old store.now.packets }
     requires digests { All (IsDigestIn store.now.packets) digests.now }
     ensures change { result
         ≡ change_by notes.old.withdrawn publication summary (entry_at store.now.packets publication) }

@@ -11,15 +11,19 @@ mod claiming;
 mod counts;
 mod gaining;
 mod hiding;
+mod pending;
 mod publishing;
+mod stock;
 mod stored_parent;
 mod taking;
 mod wanting;
 mod whole;
 
+use self::pending::Pending;
+use self::stock::Stock;
 use crate::notes::Notes;
 use ndn_name::PacketFault;
-use repo_catalog::{Catalogue, Entry};
+use repo_catalog::Catalogue;
 use repo_object::Packet;
 use repo_plan::{Part, Plan};
 use repo_store::Store;
@@ -35,14 +39,10 @@ pub use whole::Whole;
 /// A call that is refused has changed nothing, running out of memory included. Room is made first, by `reserve`; a call
 /// that uses it takes no memory.
 pub struct Holdings {
-    plan: Plan,
-    store: Store,
-    notes: Notes,
+    stock: Stock,
     catalogue: Catalogue,
-    // Empty. The entries of what becomes whole wait here while packets are taken, and so do the publications whose
-    // entries are to be removed.
-    fresh: Vec<Entry>,
-    gone: Vec<(u32, u16)>,
+    // Empty, except while packets are taken.
+    pending: Pending,
     // There is room for so many more parts, each of which may be held and be tried, and for as many entries.
     spare: usize,
 }
@@ -51,12 +51,9 @@ pub struct Holdings {
 impl Drop for Holdings {
     fn drop(self) {
         let Holdings {
-            plan: _,
-            store: _,
-            notes: _,
+            stock: _,
             catalogue: _,
-            fresh: _,
-            gone: _,
+            pending: _,
             spare: _,
         } = self;
     }
@@ -80,12 +77,16 @@ impl Holdings {
         ensures { IfOk result (λ held. held ≡ nothing_held publishers) }
     {
         Ok(Holdings {
-            plan: Plan::new(alloc, publishers)?,
-            store: Store::new(alloc),
-            notes: Notes::new(alloc),
+            stock: Stock {
+                plan: Plan::new(alloc, publishers)?,
+                store: Store::new(alloc),
+                notes: Notes::new(alloc),
+            },
             catalogue: Catalogue::new(alloc),
-            fresh: Vec::new(alloc),
-            gone: Vec::new(alloc),
+            pending: Pending {
+                fresh: Vec::new(alloc),
+                gone: Vec::new(alloc),
+            },
             spare: 0,
         })
     }
@@ -96,14 +97,14 @@ impl Holdings {
         ensures err { OnErr result (self.new ≡ self.old) }
     {
         make_room(
-            &mut self.plan,
-            &mut self.store,
-            &mut self.notes,
+            &mut self.stock.plan,
+            &mut self.stock.store,
+            &mut self.stock.notes,
             &mut self.catalogue,
             n,
         )?;
-        self.fresh.reserve(n)?;
-        self.gone.reserve(n)?;
+        self.pending.fresh.reserve(n)?;
+        self.pending.gone.reserve(n)?;
         self.spare = self.spare.max(n);
         Ok(())
     }
@@ -113,35 +114,35 @@ impl Holdings {
         requires { publisher < length self.old.known }
         ensures { self.new ≡ knows_too publisher seq self.old }
     {
-        self.plan.raise(publisher, seq);
+        self.stock.plan.raise(publisher, seq);
     }
 
     /// What holds of the plan of all holdings. Costs nothing, and is called for its clause.
     pub fn cite_soundness(&self)
         ensures { PlanIsSound (held_plan self.now) }
     {
-        self.plan.cite_soundness();
+        self.stock.plan.cite_soundness();
     }
 
     /// How many parts are held.
     pub fn len(&self) -> usize
         ensures { result ≡ length self.now.store }
     {
-        self.store.len()
+        self.stock.store.len()
     }
 
     /// The octets of the packet of a part that is held. It takes no memory.
     pub fn packet(&self, part: Part) -> Option<&[u8]>
         ensures { option_map (λ octets. octets.now) result ≡ value_of part_cmp self.now.store part }
     {
-        self.store.get(part)
+        self.stock.store.get(part)
     }
 
     /// The packet of a part that is held, which may be shared. It takes no memory.
     pub fn stored(&self, part: Part) -> Option<&Packet>
         ensures { option_map (λ packet. packet.now) result ≡ value_of part_cmp self.now.store part }
     {
-        self.store.packet(part)
+        self.stock.store.packet(part)
     }
 
     /// Puts what waits in order of the packets' names, so that it is found faster. Nothing that is held changes. It
@@ -149,7 +150,7 @@ impl Holdings {
     pub fn order_names(&mut self)
         ensures { self.new ≡ self.old }
     {
-        self.store.order_names();
+        self.stock.store.order_names();
     }
 
     /// What an Interest is answered by: the packet of the least part that satisfies it. It takes no memory.
@@ -158,7 +159,7 @@ impl Holdings {
             (λ found. served interest.now self.now.store ≡ Ok (option_map (λ octets. octets.now) found))
             (λ fault. served interest.now self.now.store ≡ Err fault) }
     {
-        self.store.serve(interest)
+        self.stock.store.serve(interest)
     }
 
     /// The objects of which no part is missing, and which are not withdrawn.

@@ -18,7 +18,7 @@ impl Holdings {
         ensures new { IfOk result (λ claim. self.new ≡ claims_too f claim self.old) }
         ensures err { OnErr result (self.new ≡ self.old) }
     {
-        self.plan.claim(f)
+        self.stock.plan.claim(f)
     }
 
     /// The part that the fetcher claims. It is wanted, and so not held.
@@ -27,8 +27,8 @@ impl Holdings {
         ensures claim { result ≡ claim_of (held_plan self.now) f }
         ensures wanted { IfSome result (λ part. is_wanted (held_plan self.now) part ≡ true) }
     {
-        self.plan.cite_soundness();
-        self.plan.claimed(f)
+        self.stock.plan.cite_soundness();
+        self.stock.plan.claimed(f)
     }
 
     /// The fetcher's claim ends, and its part can be claimed again, or be held. It takes no memory.
@@ -40,13 +40,13 @@ impl Holdings {
         ensures free { IfOk result (CanBeHeld (held_plan self.new)) }
         ensures err { OnErr result (self.new ≡ self.old) }
     {
-        self.plan.release(f)
+        self.stock.plan.release(f)
     }
 
     /// Every fetcher's claim ends. It takes no memory.
     pub fn end_claims(&mut self)
         ensures { self.new ≡ record self.old { claims = no_claims } }
     {
-        self.plan.end_claims();
+        self.stock.plan.end_claims();
     }
 }

@@ -9,13 +9,13 @@ impl Holdings {
     pub fn held_count(&self) -> u64
         ensures { result ≡ length (held_plan self.now).held }
     {
-        self.plan.held_count()
+        self.stock.plan.held_count()
     }
 
     /// How many parts are wanted, those that fetchers claim among them. Takes no look-up.
     pub fn wanted_count(&self) -> u64
         ensures { result ≡ length (wanted (held_plan self.now)) }
     {
-        self.plan.wanted_count()
+        self.stock.plan.wanted_count()
     }
 }

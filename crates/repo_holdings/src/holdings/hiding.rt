@@ -1,4 +1,4 @@
-ghost use Rattle.std.specs.Prelude.{◌≡◌, ◌+◌, ◌≤◌, false, length, OnOk, OnErr};
+ghost use Rattle.std.specs.Prelude.{◌≡◌, ◌≤◌, false, length, OnOk, OnErr};
 ghost use Rattle.std.specs.List.{All};
 ghost use Rattle.sorted_lists.specs.SortedList.{Rises, contains, value_of};
 ghost use Rattle.repo_plan.specs.Parts.{Pair, pair_cmp};
@@ -6,13 +6,13 @@ ghost use Rattle.repo_plan.specs.Plan.{claims_part_in};
 ghost use Rattle.repo_holdings.specs.Listed.{is_withdrawal};
 ghost use Rattle.repo_holdings.specs.Gaining.{AreKept};
 ghost use Rattle.repo_holdings.specs.HoldingsState.{held_plan, AreInOrder};
-ghost use Rattle.repo_holdings.specs.Hiding.{outside_all, IsHiding, hides_all, plan_hides};
+ghost use Rattle.repo_holdings.specs.Hiding.{outside_all, IsHiding, CanBeHidden, LeavesRoom, hides_all, plan_hides};
 
 use super::Holdings;
+use super::stock::Stock;
 use crate::notes::Notes;
 use repo_catalog::Catalogue;
 use repo_plan::Plan;
-use repo_store::Store;
 use std::alloc::AllocError;
 
 impl Holdings {
@@ -35,44 +35,28 @@ impl Holdings {
         let Some(room) = twice.checked_add(publications.len()) else {
             return Err(AllocError);
         };
-        self.plan.reserve(room)?;
+        self.stock.plan.reserve(room)?;
         // Entries are to be found by their names from the first deletion on.
         self.catalogue.reserve(0)?;
-        hide_all(
-            &mut self.plan,
-            &mut self.store,
-            &mut self.notes,
-            &mut self.catalogue,
-            publications,
-        );
+        hide_all(&mut self.stock, &mut self.catalogue, publications);
         Ok(())
     }
 }
 
 // These publications are hidden for good, for which room was made: none of their packets is held or listed any more.
-fn hide_all(
-    plan: &mut Plan,
-    store: &mut Store,
-    notes: &mut Notes,
-    catalogue: &mut Catalogue,
-    publications: &[(u32, u16)],
-)
-    requires room { length publications.now ≤ plan.old.spare }
-    requires unclaimed { All (λ pair. claims_part_in plan.old pair ≡ false) publications.now }
-    requires in_order { Rises pair_cmp publications.now }
-    requires objects { All (λ pair. is_withdrawal store.old.packets pair ≡ false) publications.now }
-    requires kept { AreKept plan.old store.old.packets notes.old catalogue.old.entries }
-    ensures hidden { IsHiding publications.now plan.old plan.new }
-    ensures packets { store.new.packets ≡ outside_all publications.now store.old.packets }
-    ensures kept { AreKept plan.new store.new.packets notes.new catalogue.new.entries }
-    ensures plan_room { plan.new.spare + length publications.now ≡ plan.old.spare }
-    ensures store_room { store.new.spare ≡ store.old.spare }
-    ensures notes_room { notes.new.spare ≡ notes.old.spare }
+fn hide_all(stock: &mut Stock, catalogue: &mut Catalogue, publications: &[(u32, u16)])
+    requires room { length publications.now ≤ stock.old.plan.spare }
+    requires hidable { CanBeHidden publications.now stock.old }
+    requires kept { AreKept stock.old.plan stock.old.store.packets stock.old.notes catalogue.old.entries }
+    ensures hidden { IsHiding publications.now stock.old.plan stock.new.plan }
+    ensures packets { stock.new.store.packets ≡ outside_all publications.now stock.old.store.packets }
+    ensures kept { AreKept stock.new.plan stock.new.store.packets stock.new.notes catalogue.new.entries }
+    ensures room { LeavesRoom (length publications.now) stock.old stock.new }
     ensures catalogue_room { catalogue.new.spare ≡ catalogue.old.spare }
 {
-    hide_in_plan(plan, publications);
-    forget_names(notes, publications);
-    store.drop_all(publications);
+    hide_in_plan(&mut stock.plan, publications);
+    forget_names(&mut stock.notes, publications);
+    stock.store.drop_all(publications);
     catalogue.remove_all(publications);
 }
 

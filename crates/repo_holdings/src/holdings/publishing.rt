@@ -1,5 +1,5 @@
-ghost use Rattle.std.specs.Prelude.{◌≡◌, ◌+◌, ◌-◌, ◌≤◌, vec_len};
-ghost use Rattle.repo_holdings.specs.Gaining.{AreTied, KeepsOthers};
+ghost use Rattle.std.specs.Prelude.{◌≡◌, ◌≤◌, vec_len};
+ghost use Rattle.repo_holdings.specs.Gaining.{AreTied, KeepsOthers, HaveRoomFor, HaveUsed};
 ghost use Rattle.repo_holdings.specs.HoldingsState.{held_plan, AreInOrder};
 ghost use Rattle.repo_holdings.specs.NewPublications.{with_packets, as_parts, publishes_too, IsNew, ArePackets};
 
@@ -30,17 +30,17 @@ impl Holdings {
     {
         let parts = packets.len();
         gain_all(
-            &mut self.plan,
-            &mut self.store,
+            &mut self.stock.plan,
+            &mut self.stock.store,
             publisher,
             seq,
             &summary,
             packets,
         );
         let change = change_by_summary(
-            &self.plan,
-            &self.store,
-            &mut self.notes,
+            &self.stock.plan,
+            &self.stock.store,
+            &mut self.stock.notes,
             (publisher, seq),
             Some(summary),
             &[],
@@ -60,8 +60,7 @@ fn gain_all(
     summary: &RecordSummary,
     packets: Vec<Packet>,
 )
-    requires plan_room { vec_len packets ≤ plan.old.spare }
-    requires store_room { vec_len packets ≤ store.old.spare }
+    requires room { HaveRoomFor (vec_len packets) plan.old store.old }
     requires tied { AreTied plan.old store.old.packets }
     requires new { IsNew plan.old (publisher, seq) }
     requires packets { ArePackets summary.now packets.items }
@@ -69,8 +68,7 @@ fn gain_all(
         (as_parts (publisher, seq) 0 packets.items) store.old.packets }
     ensures others { KeepsOthers plan.old plan.new }
     ensures tied { AreTied plan.new store.new.packets }
-    ensures plan_room { plan.new.spare + vec_len packets ≡ plan.old.spare }
-    ensures store_room { store.new.spare + vec_len packets ≡ store.old.spare }
+    ensures room { HaveUsed (vec_len packets) plan.old store.old plan.new store.new }
 {
     let shape = summary.shape();
     let mut x = 0;

@@ -56,7 +56,7 @@ impl Holdings {
         }
         match last {
             Some(last) if last.lists(part) => Some(last),
-            _ => Some(parent_in(&self.store, part)),
+            _ => Some(parent_in(&self.stock.store, part)),
         }
     }
 

@@ -1,26 +1,22 @@
 // What came of parts that were asked for.
-ghost use Rattle.std.specs.Prelude.{◌≡◌, ◌+◌, ◌<◌, ◌≤◌, ◌^◌, [], length, vec_len, vec_capacity, map};
-ghost use Rattle.std.specs.Prelude.{option_map, is_some, count_by, sum_by, List};
+ghost use Rattle.std.specs.Prelude.{◌≡◌, ◌<◌, ◌≤◌, ◌^◌, [], ◌∷◌, length, vec_len, vec_capacity, map};
+ghost use Rattle.std.specs.Prelude.{option_map, is_some, count_by, sum_by};
 ghost use Rattle.std.specs.List.{All};
-ghost use Rattle.repo_catalog.specs.declared.entry.Entry.{Entry};
 ghost use Rattle.repo_holdings.specs.Contents.{IsDigestIn};
 ghost use Rattle.repo_catalog.specs.Entries.{without_all};
-ghost use Rattle.repo_holdings.specs.Noted.{AreNotes};
-ghost use Rattle.repo_holdings.specs.Gaining.{AreTied};
+ghost use Rattle.repo_holdings.specs.Stock.{IsSound};
 ghost use Rattle.repo_holdings.specs.HoldingsState.{held_plan, AreInOrder};
-ghost use Rattle.repo_holdings.specs.Taking.{came, arrival_octets, with_tries, with_fetched, with_all_fetched};
-ghost use Rattle.repo_holdings.specs.Taking.{with_all_tries, after_outcome, CanBeTaken, AreTakable, KeepsButTries};
-ghost use Rattle.repo_holdings.specs.Taking.{AreListedWith, AreApartPairs};
+ghost use Rattle.repo_holdings.specs.Taking.{came, arrival_octets, with_fetched, with_all_fetched, after_outcome};
+ghost use Rattle.repo_holdings.specs.Taking.{CanBeTaken, AreTakable, AreFew, AreReady, HasTaken, HaveWaited};
+ghost use Rattle.repo_holdings.specs.Taking.{AreCounted, AreApartPairs};
 
 use super::Holdings;
-use super::gaining::gain_noted;
-use crate::changes::Change;
+use super::pending::Pending;
+use super::stock::Stock;
 use crate::contents::ContentsDigest;
-use crate::notes::Notes;
 use crate::record_summary::Arrival;
-use repo_catalog::{Catalogue, Entry};
-use repo_plan::{Part, Plan};
-use repo_store::Store;
+use repo_catalog::Catalogue;
+use repo_plan::Part;
 
 /// What came of a part that was asked for: how often it was tried, and its packet, if one came.
 #[derive(Drop)]
@@ -54,17 +50,9 @@ impl Holdings {
         ensures octets { result.octets ≡ sum_by arrival_octets all.items }
     {
         let tried = all.len();
-        let taken = take_all(
-            &mut self.plan,
-            &mut self.store,
-            &mut self.notes,
-            &mut self.fresh,
-            &mut self.gone,
-            all,
-            digests,
-        );
-        self.catalogue.add_all_reserved(&mut self.fresh);
-        remove_gone(&mut self.catalogue, &mut self.gone);
+        let taken = self.stock.take_all(&mut self.pending, all, digests);
+        self.catalogue.add_all_reserved(&mut self.pending.fresh);
+        remove_gone(&mut self.catalogue, &mut self.pending.gone);
         self.spare -= tried;
         taken
     }
@@ -87,105 +75,63 @@ fn remove_gone(catalogue: &mut Catalogue, gone: &mut Vec<(u32, u16)>)
     gone.clear();
 }
 
-// Takes what came of parts that were asked for, for which room was made. The entries of what becomes whole go to
-// `fresh`, and the publications that are withdrawn newly to `gone`.
-fn take_all(
-    plan: &mut Plan,
-    store: &mut Store,
-    notes: &mut Notes,
-    fresh: &mut Vec<Entry>,
-    gone: &mut Vec<(u32, u16)>,
-    all: Vec<Tried>,
-    digests: &[ContentsDigest],
-) -> Taken
-    requires plan_room { vec_len all + vec_len all ≤ plan.old.spare }
-    requires store_room { vec_len all ≤ store.old.spare }
-    requires notes_room { vec_len all ≤ notes.old.spare }
-    requires fresh_room { length fresh.old.items + vec_len all ≤ vec_capacity fresh.old }
-    requires gone_room { length gone.old.items + vec_len all ≤ vec_capacity gone.old }
-    requires tied { AreTied plan.old store.old.packets }
-    requires noted { AreNotes notes.old store.old.packets }
-    requires takable { AreTakable plan.old store.old.packets all.items }
-    requires few { vec_len all < 2 ^ 32 }
-    requires short { sum_by arrival_octets all.items < 2 ^ 64 }
-    requires digests { All (IsDigestIn (with_all_fetched (map came all.items) store.old.packets)) digests.now }
-    ensures plan_room { plan.old.spare ≤ plan.new.spare + (vec_len all + vec_len all) }
-    ensures store_room { store.old.spare ≤ store.new.spare + vec_len all }
-    ensures notes_room { notes.old.spare ≤ notes.new.spare + vec_len all }
-    ensures few_fresh { length fresh.new.items ≤ length fresh.old.items + vec_len all }
-    ensures fresh_room { vec_capacity fresh.old ≤ vec_capacity fresh.new }
-    ensures gone_room { vec_capacity gone.old ≤ vec_capacity gone.new }
-    ensures packets { store.new.packets ≡ with_all_fetched (map came all.items) store.old.packets }
-    ensures attempts { plan.new.attempts ≡ with_all_tries (map came all.items) plan.old.attempts }
-    ensures others { KeepsButTries plan.old plan.new }
-    ensures tied { AreTied plan.new store.new.packets }
-    ensures noted { AreNotes notes.new store.new.packets }
-    ensures listed { (entries : List Entry)
-        → AreListedWith fresh.old.items gone.old.items entries store.old.packets
-        → AreListedWith fresh.new.items gone.new.items entries store.new.packets }
-    ensures parts { result.parts ≡ count_by (λ x. is_some x.arrival) all.items }
-    ensures octets { result.octets ≡ sum_by arrival_octets all.items }
-{
-    let mut parts = 0;
-    let mut octets = 0;
-    for tried in all {
-        let came = take_one(plan, store, notes, fresh, gone, tried, digests);
-        parts += u32::from(came.is_some());
-        octets += came.unwrap_or(0);
-    }
-    Taken { parts, octets }
-}
-
-// Takes what came of one part. The answer is how many octets its packet has, if one came.
-fn take_one(
-    plan: &mut Plan,
-    store: &mut Store,
-    notes: &mut Notes,
-    fresh: &mut Vec<Entry>,
-    gone: &mut Vec<(u32, u16)>,
-    tried: Tried,
-    digests: &[ContentsDigest],
-) -> Option<u64>
-    requires plan_room { 2 ≤ plan.old.spare }
-    requires store_room { 0 < store.old.spare }
-    requires notes_room { 0 < notes.old.spare }
-    requires fresh_room { length fresh.old.items < vec_capacity fresh.old }
-    requires gone_room { length gone.old.items < vec_capacity gone.old }
-    requires tied { AreTied plan.old store.old.packets }
-    requires noted { AreNotes notes.old store.old.packets }
-    requires takable { CanBeTaken plan.old store.old.packets tried }
-    requires digests { All (IsDigestIn (with_fetched tried.part (came tried).packet store.old.packets)) digests.now }
-    ensures plan_room { plan.old.spare ≤ plan.new.spare + 2 }
-    ensures store_room { store.old.spare ≤ store.new.spare + 1 }
-    ensures notes_room { notes.old.spare ≤ notes.new.spare + 1 }
-    ensures few_fresh { length fresh.new.items ≤ length fresh.old.items + 1 }
-    ensures few_gone { length gone.new.items ≤ length gone.old.items + 1 }
-    ensures fresh_room { vec_capacity fresh.old ≤ vec_capacity fresh.new }
-    ensures gone_room { vec_capacity gone.old ≤ vec_capacity gone.new }
-    ensures packets { store.new.packets ≡ with_fetched tried.part (came tried).packet store.old.packets }
-    ensures attempts { plan.new.attempts ≡ with_tries tried.part tried.attempts plan.old.attempts }
-    ensures others { KeepsButTries plan.old plan.new }
-    ensures tied { AreTied plan.new store.new.packets }
-    ensures noted { AreNotes notes.new store.new.packets }
-    ensures listed { (entries : List Entry)
-        → AreListedWith fresh.old.items gone.old.items entries store.old.packets
-        → AreListedWith fresh.new.items gone.new.items entries store.new.packets }
-    ensures came { result ≡ option_map (λ a. length a.packet) tried.arrival }
-{
-    let Tried {
-        part,
-        attempts,
-        arrival,
-    } = tried;
-    let mut came = None;
-    if let Some(arrival) = arrival {
-        came = Some(arrival.packet.octets().len() as u64);
-        match gain_noted(plan, store, notes, part, arrival, digests) {
-            Change::Nothing => {}
-            Change::Lists(entry) => fresh.push(entry).unwrap(),
-            Change::Removes { publisher, seq } => gone.push((publisher, seq)).unwrap(),
+impl Stock {
+    // Takes what came of parts that were asked for, for which there is room. The entries of what becomes whole wait
+    // from now on, and so do the publications that are withdrawn newly.
+    fn take_all(
+        &mut self,
+        pending: &mut Pending,
+        all: Vec<Tried>,
+        digests: &[ContentsDigest],
+    ) -> Taken
+        requires ready { AreReady (vec_len all) self.old pending.old }
+        requires takable { AreTakable self.old.plan self.old.store.packets all.items }
+        requires few { AreFew all.items }
+        requires digests { All (IsDigestIn (with_all_fetched (map came all.items) self.old.store.packets)) digests.now }
+        ensures taken { HasTaken all.items self.old self.new }
+        ensures sound { IsSound self.new }
+        ensures waiting { HaveWaited (vec_len all) pending.old pending.new
+            self.old.store.packets self.new.store.packets }
+        ensures counted { AreCounted all.items result }
+    {
+        let mut parts = 0;
+        let mut octets = 0;
+        for tried in all {
+            let came = self.take_one(pending, tried, digests);
+            parts += u32::from(came.is_some());
+            octets += came.unwrap_or(0);
         }
+        Taken { parts, octets }
     }
-    plan.add_attempts_reserved(part, attempts);
-    came
+
+    // Takes what came of one part. The answer is how many octets its packet has, if one came.
+    fn take_one(
+        &mut self,
+        pending: &mut Pending,
+        tried: Tried,
+        digests: &[ContentsDigest],
+    ) -> Option<u64>
+        requires ready { AreReady 1 self.old pending.old }
+        requires takable { CanBeTaken self.old.plan self.old.store.packets tried }
+        requires digests { All (IsDigestIn (with_fetched tried.part (came tried).packet self.old.store.packets))
+            digests.now }
+        ensures taken { HasTaken (tried ∷ []) self.old self.new }
+        ensures sound { IsSound self.new }
+        ensures waiting { HaveWaited 1 pending.old pending.new self.old.store.packets self.new.store.packets }
+        ensures came { result ≡ option_map (λ a. length a.packet) tried.arrival }
+    {
+        let Tried {
+            part,
+            attempts,
+            arrival,
+        } = tried;
+        let mut came = None;
+        if let Some(arrival) = arrival {
+            came = Some(arrival.packet.octets().len() as u64);
+            let change = self.gain(part, arrival, digests);
+            pending.push(change);
+        }
+        self.plan.add_attempts_reserved(part, attempts);
+        came
+    }
 }

@@ -21,7 +21,7 @@ impl HasParts for Holdings {
     ghost has = { λ h t. holds (held_plan h) t };
 
     fn least_from(&self, part: Part) -> Option<Part> {
-        self.plan.held_from(part)
+        self.stock.plan.held_from(part)
     }
 }
 
@@ -42,7 +42,7 @@ impl Holdings {
         ensures { IfOk result (λ jobs. jobs.items ≡ map (job_at publishers.now group.now self.now)
             (take most (filter (is_after after) (unclaimed (held_plan self.now))))) }
     {
-        let parts = self.plan.wanted_after(alloc, after, most)?;
+        let parts = self.stock.plan.wanted_after(alloc, after, most)?;
         self.jobs_of(alloc, publishers, group, &parts)
     }
 
@@ -62,7 +62,10 @@ impl Holdings {
             (take most (filter (some_holds H.has others.now)
             (filter (is_after after) (unclaimed (held_plan self.now)))))) }
     {
-        let parts = self.plan.wanted_held_after(alloc, others, after, most)?;
+        let parts = self
+            .stock
+            .plan
+            .wanted_held_after(alloc, others, after, most)?;
         self.jobs_of(alloc, publishers, group, &parts)
     }
 
@@ -84,7 +87,7 @@ impl Holdings {
         for part in parts {
             stored = self.parent_for(*part, stored);
             let want = self.want(alloc, publishers, group, *part, stored.as_ref())?;
-            let base = self.plan.attempts(*part);
+            let base = self.stock.plan.attempts(*part);
             jobs.push(Job { want, base })?;
         }
         Ok(jobs)

@@ -107,7 +107,7 @@ impl Holdings {
             part: 0,
         };
         let most = came.saturating_add(1);
-        let missing = self.plan.wanted_after(alloc, Some(record), most)?;
+        let missing = self.stock.plan.wanted_after(alloc, Some(record), most)?;
         let is_of = |part: &&Part| (part.publisher, part.seq) == (publisher, seq);
         Ok(missing.iter().filter(is_of).count() == came)
     }
@@ -127,7 +127,7 @@ impl Holdings {
         ensures few { IfOk result (λ contents. IfSome contents (λ contents.
             length (joined contents.items) < 2 ^ 64)) }
     {
-        let Some(shape) = self.plan.shape(publisher, seq) else {
+        let Some(shape) = self.stock.plan.shape(publisher, seq) else {
             return Ok(None);
         };
         let mut contents = Vec::with_capacity(alloc, usize::from(shape.segments))?;
@@ -157,7 +157,7 @@ impl Holdings {
             (value_of part_cmp (with_fetched_for jobs.now parts.now self.now.store) part) [])) }
         ensures short { IfSome result (λ content. length content.now ≤ 8800) }
     {
-        if let Some(content) = stored_content(&self.store, part) {
+        if let Some(content) = stored_content(&self.stock.store, part) {
             return Some(content);
         }
         let Ok(place) = jobs.binary_search_by_key(&part, |job| job.want.part()) else {

@@ -19,22 +19,22 @@ returns-then-note_withdrawn-clause-noted c =
     noted_withdrawn c.args.store.now.packets c.args.publication c.in-Some-Withdrawal.field-0 c.in-Some-Withdrawal.seq
     c.args.notes.now c.note_withdrawn.new.self c.in-Some-Withdrawal.field-0-is
     (subst (λ (o : Option RecordSummary). IfSome o (λ x. option_map summary_of (stated_at c.args.store.now.packets
-    c.args.publication) ≡ Some x)) c.in-Some-Withdrawal.is c.requires.summary)
+    c.args.publication) ≡ Some x)) c.in-Some-Withdrawal.is c.requires.said.summary)
     c.note_withdrawn.ensures.withdrawn c.note_withdrawn.ensures.names
     (λ q. ap (λ (o : Option RecordSummary). withdraws_too c.args.publication o q
     || contains pair_cmp c.args.notes.now.withdrawn q) (sym c.in-Some-Withdrawal.is)
-    ∙ c.requires.withdrawn q)
+    ∙ c.requires.said.withdrawn q)
 
 pub returns-in-Some-Withdrawal-clause-noted : goal.returns-in-Some-Withdrawal-clause-noted
 returns-in-Some-Withdrawal-clause-noted c =
     noted_withdrawn c.args.store.now.packets c.args.publication c.in-Some-Withdrawal.field-0 c.in-Some-Withdrawal.seq
     c.args.notes.now c.note_withdrawn.new.self c.in-Some-Withdrawal.field-0-is
     (subst (λ (o : Option RecordSummary). IfSome o (λ x. option_map summary_of (stated_at c.args.store.now.packets
-    c.args.publication) ≡ Some x)) c.in-Some-Withdrawal.is c.requires.summary)
+    c.args.publication) ≡ Some x)) c.in-Some-Withdrawal.is c.requires.said.summary)
     c.note_withdrawn.ensures.withdrawn c.note_withdrawn.ensures.names
     (λ q. ap (λ (o : Option RecordSummary). withdraws_too c.args.publication o q
     || contains pair_cmp c.args.notes.now.withdrawn q) (sym c.in-Some-Withdrawal.is)
-    ∙ c.requires.withdrawn q)
+    ∙ c.requires.said.withdrawn q)
 
 pub entry_if_whole-requires-clause-named : goal.entry_if_whole-requires-clause-named
 entry_if_whole-requires-clause-named c = elim c.match-summary.branch [
@@ -48,14 +48,14 @@ entry_if_whole-requires-clause-named c = elim c.match-summary.branch [
       some_of (listing_at packets pair)
       (named_stated packets pair w.in-Some-Object.field-0 _ w.in-Some-Object.name
       (subst (λ (o : Option RecordSummary). IfSome o (λ x. option_map summary_of (stated_at packets pair) ≡ Some x))
-      w.in-Some-Object.is c.requires.summary) w.in-Some-Object.field-0-is)
+      w.in-Some-Object.is c.requires.said.summary) w.in-Some-Object.field-0-is)
       (λ l listed same.
       subst (λ (o : Option Listed). IsSomeAnd o (λ l. value_of pair_cmp c.match-summary.notes.names pair ≡ Some l.name))
       (sym listed) (there ∙ ap (λ (n : List Component). Some n) same))
   | in-None w ↦
       subst (λ (n : NotesState). IsSomeAnd (listing_at c.args.store.now.packets c.args.publication)
       (λ l. value_of pair_cmp n.names c.args.publication ≡ Some l.name)) (sym w.notes-is)
-      (c.requires.named w.in-None.is)
+      (c.requires.said.named w.in-None.is)
 ]
 
 pub returns-in-Some-clause-noted : goal.returns-in-Some-clause-noted

@@ -75,6 +75,6 @@ returns-clause-exact c =
     c.in_ok-checked.checked.now c.requires c.in-Ok.ensures.bound
     (c.in-Ok.ensures.position job_part (answers_always _ _ _ (λ f a r g called. search rules)) no_job)
     (ap (λ (h : HoldingsState). value_of part_cmp h.store c.args.part) (sym c.self.view_is)
-    ∙ nothing_stored (value_of part_cmp c.self.inside.store.packets c.args.part)
+    ∙ nothing_stored (value_of part_cmp c.self.inside.stock.store.packets c.args.part)
     (ap (option_map (λ content. content.now)) (sym c.in_default.is) ∙ c.stored_content.ensures.exact))
     (c.in_ok-checked.ensures)))

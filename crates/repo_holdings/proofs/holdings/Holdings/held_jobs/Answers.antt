@@ -11,9 +11,10 @@ use Rattle.repo_holdings.proofs.holdings.Holdings.held_jobs.Goals as goal
 pub jobs_of-requires-clause-asked : goal.jobs_of-requires-clause-asked
 jobs_of-requires-clause-asked g c = λ k d inside.
     let listed =
-    subst (All (λ t. may_be_asked_for c.self.inside.plan t ≡ true))
+    subst (All (λ t. may_be_asked_for c.self.inside.stock.plan t ≡ true))
     (sym (c.deref.ensures.value ∙ c.in_ok-parts.ensures))
-    (passing_are_asked c.self.inside.plan (some_holds g.H.HasParts.has c.args.others.now) c.args.after c.args.most) in
+    (passing_are_asked c.self.inside.stock.plan (some_holds g.H.HasParts.has c.args.others.now) c.args.after
+    c.args.most) in
     sym (reading (λ p. may_be_asked_for p (slice_index_or c.deref.result.now k d)) c.self.inside c.args.self.now
     c.self.invariant c.self.view_is refl)
     ∙ listed k d inside

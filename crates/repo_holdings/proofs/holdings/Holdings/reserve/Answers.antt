@@ -5,7 +5,7 @@ use Rattle.repo_holdings.proofs.holdings.Holdings.reserve.Goals as goal
 pub invariant_of-self : goal.invariant_of-self
 invariant_of-self c = record {
   kept =
-      kept_still c.self.inside.plan c.make_room.new.plan _ _ _ _ _ _ _ c.make_room.ensures.plan
+      kept_still c.self.inside.stock.plan c.make_room.new.plan _ _ _ _ _ _ _ c.make_room.ensures.plan
       c.make_room.ensures.store c.make_room.ensures.names c.make_room.ensures.withdrawn c.make_room.ensures.catalogue
       c.self.invariant.kept;
   room = c.make_room.ensures.still c.self.inside.spare c.self.invariant.room;
@@ -18,7 +18,7 @@ invariant_of-self c = record {
 pub invariant_of-self-in_err-reserve : goal.invariant_of-self-in_err-reserve
 invariant_of-self-in_err-reserve c = record {
   kept =
-      kept_still c.self.inside.plan c.make_room.new.plan _ _ _ _ _ _ _ c.make_room.ensures.plan
+      kept_still c.self.inside.stock.plan c.make_room.new.plan _ _ _ _ _ _ _ c.make_room.ensures.plan
       c.make_room.ensures.store c.make_room.ensures.names c.make_room.ensures.withdrawn c.make_room.ensures.catalogue
       c.self.invariant.kept;
   room = c.make_room.ensures.still c.self.inside.spare c.self.invariant.room;
@@ -31,7 +31,7 @@ invariant_of-self-in_err-reserve c = record {
 pub invariant_of-self-in_err-reserve-2 : goal.invariant_of-self-in_err-reserve-2
 invariant_of-self-in_err-reserve-2 c = record {
   kept =
-      kept_still c.self.inside.plan c.make_room.new.plan _ _ _ _ _ _ _ c.make_room.ensures.plan
+      kept_still c.self.inside.stock.plan c.make_room.new.plan _ _ _ _ _ _ _ c.make_room.ensures.plan
       c.make_room.ensures.store c.make_room.ensures.names c.make_room.ensures.withdrawn c.make_room.ensures.catalogue
       c.self.invariant.kept;
   room = c.make_room.ensures.still c.self.inside.spare c.self.invariant.room;
@@ -44,7 +44,7 @@ invariant_of-self-in_err-reserve-2 c = record {
 pub invariant_of-self-2 : goal.invariant_of-self-2
 invariant_of-self-2 c = record {
   kept =
-      kept_still c.self.inside.plan c.make_room.new.plan _ _ _ _ _ _ _ c.make_room.ensures.plan
+      kept_still c.self.inside.stock.plan c.make_room.new.plan _ _ _ _ _ _ _ c.make_room.ensures.plan
       c.make_room.ensures.store c.make_room.ensures.names c.make_room.ensures.withdrawn c.make_room.ensures.catalogue
       c.self.invariant.kept;
   room =

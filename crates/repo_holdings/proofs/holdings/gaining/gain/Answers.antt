@@ -8,14 +8,14 @@ use Rattle.repo_holdings.proofs.holdings.gaining.gain.Goals as goal
 
 pub hold_reserved-requires-clause-sized : goal.hold_reserved-requires-clause-sized
 hold_reserved-requires-clause-sized c =
-    subst (λ (o : Option Shape). IfSome o IsShape) (sym c.requires.summary)
+    subst (λ (o : Option Shape). IfSome o IsShape) (sym c.requires.packet.summary)
     (stated_shape_sized c.args.part c.args.packet)
 
 pub returns-clause-tied : goal.returns-clause-tied
 returns-clause-tied c =
     let tied =
-    tied_too _ _ c.args.part c.args.packet c.args.shape c.requires.tied c.requires.not_held c.requires.asked
-    c.requires.shape c.requires.summary c.requires.lists in
+    tied_too _ _ c.args.part c.args.packet c.args.shape c.requires.tied c.requires.missing.not_held
+    c.requires.missing.free.asked c.requires.packet.shape c.requires.packet.summary c.requires.packet.lists in
     rw (c.hold_reserved.ensures.new, c.put_shared.ensures.put)
     (record {
       in_order = tied.in_order;

@@ -7,13 +7,13 @@ use Rattle.repo_holdings.proofs.holdings.hiding.hide_all.Goals as goal
 
 pub returns-clause-hidden : goal.returns-clause-hidden
 returns-clause-hidden c =
-    subst (IsHiding c.args.publications.now c.args.plan.now) (sym c.hide_in_plan.ensures)
-    (all_hidden c.args.publications.now c.args.plan.now)
+    subst (IsHiding c.args.publications.now c.args.stock.now.plan) (sym c.hide_in_plan.ensures)
+    (all_hidden c.args.publications.now c.args.stock.now.plan)
 
 pub returns-clause-packets : goal.returns-clause-packets
 returns-clause-packets c =
     ap (λ (s : StoreList). s.packets) c.drop_all.ensures.dropped
-    ∙ sym (outside_at_once c.args.publications.now c.args.store.now.packets)
+    ∙ sym (outside_at_once c.args.publications.now c.args.stock.now.store.packets)
 
 pub returns-clause-kept : goal.returns-clause-kept
 returns-clause-kept c =
@@ -21,18 +21,19 @@ returns-clause-kept c =
       c.hide_in_plan.ensures,
       c.drop_all.ensures.dropped,
       c.remove_all.ensures,
-      ← outside_at_once c.args.publications.now c.args.store.now.packets,
+      ← outside_at_once c.args.publications.now c.args.stock.now.store.packets,
     )
-    (kept_hides_all c.args.publications.now c.args.plan.now c.args.store.now.packets c.args.notes.now
-    c.forget_names.new.notes c.args.catalogue.now.entries c.requires.objects c.forget_names.ensures.withdrawn
-    c.forget_names.ensures.others c.requires.kept)
+    (kept_hides_all c.args.publications.now c.args.stock.now.plan c.args.stock.now.store.packets
+    c.args.stock.now.notes c.forget_names.new.notes c.args.catalogue.now.entries c.requires.hidable.objects
+    c.forget_names.ensures.withdrawn c.forget_names.ensures.others c.requires.kept)
 
-pub returns-clause-plan_room : goal.returns-clause-plan_room
-returns-clause-plan_room c =
-    rw c.hide_in_plan.ensures (room_hidden c.args.publications.now c.args.plan.now c.requires.room)
-
-pub returns-clause-store_room : goal.returns-clause-store_room
-returns-clause-store_room c = ap (λ (s : StoreList). s.spare) c.drop_all.ensures.dropped
+pub returns-clause-room : goal.returns-clause-room
+returns-clause-room c = record {
+  of_plan =
+      rw c.hide_in_plan.ensures (room_hidden c.args.publications.now c.args.stock.now.plan c.requires.room);
+  of_store = ap (λ (s : StoreList). s.spare) c.drop_all.ensures.dropped;
+  of_notes = c.forget_names.ensures.room;
+}
 
 pub returns-clause-catalogue_room : goal.returns-clause-catalogue_room
 returns-clause-catalogue_room c = ap (λ (k : EntryList). k.spare) c.remove_all.ensures

@@ -1,14 +1,15 @@
-use Rattle.std.proofs.Common.{List, ℕ, ◌+◌, length, Some, sym, ap, ◌∙◌, subst, arith}
+use Rattle.std.proofs.Common.{List, ℕ, ◌+◌, ◌==◌, length, Some, is_some, sym, ap, ◌∙◌, subst, arith}
 use Rattle.std.specs.Vec.Iter.{into_iter_items}
 use Rattle.sorted_lists.specs.SortedList.{contains}
 use Rattle.repo_plan.specs.declared.part.Part.{Part}
 use Rattle.repo_plan.specs.declared.shape.Shape.{Shape}
-use Rattle.repo_plan.specs.Parts.{Pair, IsShape, part_cmp, part_of, last_part}
+use Rattle.repo_plan.specs.Parts.{Pair, IsShape, pair_cmp, part_cmp, part_of, last_part}
 use Rattle.repo_plan.specs.Plan.{PlanState}
 use Rattle.repo_store.specs.StoreList.{StoreList}
 use Rattle.repo_object.proofs.IndexLemmas.{index_few}
 use Rattle.repo_holdings.specs.Gaining.{summary_shape}
 use Rattle.repo_holdings.specs.NewPublications.{as_parts, with_packets}
+use Rattle.repo_holdings.proofs.HoldingsLemmas.{not_zero}
 use Rattle.repo_holdings.proofs.PublishLemmas.{AreRemaining, first_listing, gained_none, gained_more, can_ask}
 use Rattle.repo_holdings.proofs.PublishLemmas.{not_claimed, room_kept, stated_first, not_stated, all_to_come}
 use Rattle.repo_holdings.proofs.PublishLemmas.{come_later}
@@ -37,52 +38,61 @@ loop-packet-init c =
           (all_to_come c.args.summary.now pair made c.args.store.now.packets c.requires.packets);
     }
 
-pub gain-requires-clause-plan_room : goal.gain-requires-clause-plan_room
-gain-requires-clause-plan_room c =
+pub gain-requires-clause-room : goal.gain-requires-clause-room
+gain-requires-clause-room c =
     let fewer = ap (λ (r : List (List ℕ)). length r) c.in-Some.ensures.steps.0 in
-    omega (arith, fewer, c.requires.plan_room, c.loop-packet.invariant.plan_room, c.args.packets.ok.0)
+    let long = c.args.packets.ok.0 in
+    record {
+      for_plan = omega (arith, fewer, c.requires.room.for_plan, c.loop-packet.invariant.plan_room, long);
+      for_store = omega (arith, fewer, c.requires.room.for_store, c.loop-packet.invariant.store_room, long);
+    }
 
-pub gain-requires-clause-store_room : goal.gain-requires-clause-store_room
-gain-requires-clause-store_room c =
+pub gain-requires-clause-packet : goal.gain-requires-clause-packet
+gain-requires-clause-packet c =
+    let pair : Pair = (c.args.publisher, c.args.seq) in
+    let first = first_listing c.args.packets.items in
+    let later = into_iter_items c.next.new.self in
+    let come =
+    subst (λ (r : List (List ℕ)). AreRemaining c.args.summary.now first pair c.loop-packet.x r
+    c.loop-packet.store.packets) c.in-Some.ensures.steps.0 c.loop-packet.invariant.come in
+    record {
+      shape = elim c.if-x-eq0.branch [
+        | then-x-eq0 w ↦ ap is_some w.shape-is ∙ sym (ap (λ (n : ℕ). n == 0) w.if-x-eq0.true)
+        | else-x-eq0 w ↦ ap is_some w.shape-is ∙ sym (not_zero c.loop-packet.x w.if-x-eq0.false)
+      ];
+      summary =
+          reports_shape c.args.summary.now first pair c.loop-packet.x c.in-Some.packet later c.loop-packet.store.packets
+          come c.if-x-eq0.shape
+          (elim c.if-x-eq0.branch [
+            | then-x-eq0 w ↦
+                w.shape-is ∙ ap (λ (s : Shape). Some s) c.shape-shape.ensures
+                ∙ sym (ap (stated_first (summary_shape c.args.summary.now)) w.if-x-eq0.true)
+            | else-x-eq0 w ↦ w.shape-is ∙ sym (not_stated (summary_shape c.args.summary.now) c.loop-packet.x
+                w.if-x-eq0.false)
+          ]);
+      lists =
+          lists_many c.args.summary.now first pair c.loop-packet.x c.in-Some.packet later c.loop-packet.store.packets
+          come;
+    }
+
+pub gain-requires-clause-missing : goal.gain-requires-clause-missing
+gain-requires-clause-missing c =
     let fewer = ap (λ (r : List (List ℕ)). length r) c.in-Some.ensures.steps.0 in
-    omega (arith, fewer, c.requires.store_room, c.loop-packet.invariant.store_room, c.args.packets.ok.0)
-
-pub gain-requires-clause-summary : goal.gain-requires-clause-summary
-gain-requires-clause-summary c =
-    reports_shape c.args.summary.now (first_listing c.args.packets.items) (c.args.publisher, c.args.seq) c.loop-packet.x
-    c.in-Some.packet (into_iter_items c.next.new.self) c.loop-packet.store.packets
-    (subst (λ (r : List (List ℕ)). AreRemaining c.args.summary.now (first_listing c.args.packets.items)
-    (c.args.publisher, c.args.seq) c.loop-packet.x r c.loop-packet.store.packets) c.in-Some.ensures.steps.0
-    c.loop-packet.invariant.come)
-    c.if-x-eq0.shape
-    (elim c.if-x-eq0.branch [
-      | then-x-eq0 w ↦
-          w.shape-is ∙ ap (λ (s : Shape). Some s) c.shape-shape.ensures
-          ∙ sym (ap (stated_first (summary_shape c.args.summary.now)) w.if-x-eq0.true)
-      | else-x-eq0 w ↦ w.shape-is ∙ sym (not_stated (summary_shape c.args.summary.now) c.loop-packet.x
-          w.if-x-eq0.false)
-    ])
-
-pub gain-requires-clause-lists : goal.gain-requires-clause-lists
-gain-requires-clause-lists c =
-    lists_many c.args.summary.now (first_listing c.args.packets.items) (c.args.publisher, c.args.seq) c.loop-packet.x
-    c.in-Some.packet (into_iter_items c.next.new.self) c.loop-packet.store.packets
-    (subst (λ (r : List (List ℕ)). AreRemaining c.args.summary.now (first_listing c.args.packets.items)
-    (c.args.publisher, c.args.seq) c.loop-packet.x r c.loop-packet.store.packets) c.in-Some.ensures.steps.0
-    c.loop-packet.invariant.come)
-
-pub gain-requires-clause-asked : goal.gain-requires-clause-asked
-gain-requires-clause-asked c =
-    let fewer = ap (λ (r : List (List ℕ)). length r) c.in-Some.ensures.steps.0 in
-    can_ask c.args.plan.now c.loop-packet.plan (c.args.publisher, c.args.seq) c.shape-shape.result c.loop-packet.x
-    c.requires.new c.loop-packet.invariant.gained
-    (subst IsShape (sym c.shape-shape.ensures)
-    (packets_sized c.args.summary.now c.args.packets.items c.requires.packets))
-    (omega (arith, fewer, c.loop-packet.invariant.count))
-
-pub gain-requires-clause-not_claimed : goal.gain-requires-clause-not_claimed
-gain-requires-clause-not_claimed c =
-    not_claimed _ _ (c.args.publisher, c.args.seq) _ c.loop-packet.x c.requires.new c.loop-packet.invariant.gained
+    let pair : Pair = (c.args.publisher, c.args.seq) in
+    let gained = c.loop-packet.invariant.gained in
+    record {
+      free = record {
+        asked =
+            can_ask c.args.plan.now c.loop-packet.plan pair c.shape-shape.result c.loop-packet.x c.requires.new gained
+            (subst IsShape (sym c.shape-shape.ensures)
+            (packets_sized c.args.summary.now c.args.packets.items c.requires.packets))
+            (omega (arith, fewer, c.loop-packet.invariant.count));
+        not_hidden =
+            ap (λ (ps : List Pair). contains pair_cmp ps pair) gained.others.hidden ∙ c.requires.new.not_hidden;
+        not_claimed = not_claimed _ _ pair _ c.loop-packet.x c.requires.new gained;
+      };
+      not_held = gained.fresh c.loop-packet.x (omega arith);
+    }
 
 pub overflow_add-x : goal.overflow_add-x
 overflow_add-x c =
@@ -125,7 +135,7 @@ loop-packet-preserved c =
           omega (
             arith,
             fewer,
-            c.requires.plan_room,
+            c.requires.room.for_plan,
             inv.plan_room,
             ap (λ (p : PlanState). p.spare) c.gain.ensures.plan,
             room_kept (part_of pair c.loop-packet.x) c.if-x-eq0.shape c.loop-packet.plan,
@@ -134,7 +144,7 @@ loop-packet-preserved c =
           omega (
             arith,
             fewer,
-            c.requires.store_room,
+            c.requires.room.for_store,
             inv.store_room,
             ap (λ (s : StoreList). s.spare) c.gain.ensures.store,
           );
