@@ -26,7 +26,7 @@ use Rattle.repo_holdings.specs.Listed.{stored_at, listing_in, stated_at, listing
 use Rattle.repo_holdings.specs.Listed.{is_withdrawn, is_withdrawal, whole_at, entry_listed, member_catalogue}
 use Rattle.repo_holdings.specs.StoredParents.{index_count, lists_at, ListsAsMany}
 use Rattle.repo_holdings.specs.Noted.{NotesState, AreNotes}
-use Rattle.repo_holdings.specs.Gaining.{AreTied, AreKept}
+use Rattle.repo_holdings.specs.Gaining.{AreTied}
 use Rattle.repo_holdings.specs.Hiding.{outside_all, plan_hides, IsHiding}
 use Rattle.repo_holdings.proofs.SortedMaps.{same_map}
 use Rattle.repo_holdings.proofs.CatalogueLemmas.{shapes_value, shapes_rise, unlisted, same_whole}
@@ -212,7 +212,7 @@ objects_left pair pairs packets r all =
     (λ q h. withdrawals_outside pair packets r (objects_first pair pairs packets all) q h) pairs
     (All-tail (λ (p : Pair). is_withdrawal packets p ≡ false) pair pairs all)
 
-catalogue_outside_all : (pairs : List Pair) (packets : List Packet) → Rises part_cmp (keys packets)
+pub catalogue_outside_all : (pairs : List Pair) (packets : List Packet) → Rises part_cmp (keys packets)
     → AreObjects packets pairs
     → without_all pairs (member_catalogue packets) ≡ member_catalogue (outside_all pairs packets)
 catalogue_outside_all [] packets r all = without_none (member_catalogue packets)
@@ -266,14 +266,14 @@ nothing_left (pair ∷ pairs) packets q h x =
           (ap (λ (k : Pair). stored_at (packets_outside pair packets) k x) is ∙ nothing_inside pair packets x)
       go rest false p = rest (sym (ap (λ (b : Bool). b || contains pair_cmp pairs q) p) ∙ h)
 
-tied_hides_all : (pairs : List Pair) (plan : PlanState) (packets : List Packet) → AreTied plan packets
+pub tied_hides_all : (pairs : List Pair) (plan : PlanState) (packets : List Packet) → AreTied plan packets
     → AreTied (plan_hides pairs plan) (outside_all pairs packets)
 tied_hides_all [] plan packets tied = tied
 tied_hides_all (pair ∷ pairs) plan packets tied =
     tied_hides_all pairs (uses_room (after_hide pair plan)) (packets_outside pair packets)
     (tied_hides pair plan packets tied)
 
-noted_hides_all : (pairs : List Pair) (packets : List Packet) (old new : NotesState) → Rises part_cmp (keys packets)
+pub noted_hides_all : (pairs : List Pair) (packets : List Packet) (old new : NotesState) → Rises part_cmp (keys packets)
     → AreObjects packets pairs → new.withdrawn ≡ old.withdrawn
     → ((q : Pair) → contains pair_cmp pairs q ≡ false
     → value_of pair_cmp new.names q ≡ value_of pair_cmp old.names q)
@@ -298,19 +298,6 @@ noted_hides_all pairs packets old new r all withdrawn names are = record {
       names q p
       ∙ are.names q l (ap (option_and_then listing_in) (sym (left_of_others pairs packets q p 0)) ∙ listed)
       (sym (same_whole packets after q (left_of_others pairs packets q p)) ∙ none)
-
-pub kept_hides_all : (pairs : List Pair) (plan : PlanState) (packets : List Packet) (old new : NotesState)
-    (entries : List Entry) → AreObjects packets pairs → new.withdrawn ≡ old.withdrawn
-    → ((q : Pair) → contains pair_cmp pairs q ≡ false
-    → value_of pair_cmp new.names q ≡ value_of pair_cmp old.names q)
-    → AreKept plan packets old entries
-    → AreKept (plan_hides pairs plan) (outside_all pairs packets) new (without_all pairs entries)
-kept_hides_all pairs plan packets old new entries all withdrawn names kept = record {
-  tied = tied_hides_all pairs plan packets kept.tied;
-  noted = noted_hides_all pairs packets old new kept.tied.in_order all withdrawn names kept.noted;
-  listed =
-      ap (without_all pairs) kept.listed ∙ catalogue_outside_all pairs packets kept.tied.in_order all;
-}
 
 -- a publication that isn't among these is none of them
 pub is_none_of : (pairs : List Pair) (q : Pair) → contains pair_cmp pairs q ≡ false

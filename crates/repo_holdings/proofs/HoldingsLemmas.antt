@@ -11,14 +11,15 @@ use Rattle.repo_plan.specs.Parts.{Pair, pair_cmp, pair_of, parent, last_part}
 use Rattle.repo_plan.specs.Plan.{PlanState, may_be_asked_for}
 use Rattle.repo_plan.proofs.Changes.{same_holdings}
 use Rattle.repo_holdings.specs.declared.holdings.Holdings.TheInside.{Inside}
+use Rattle.repo_holdings.specs.declared.holdings.pending.Pending.{Pending}
+use Rattle.repo_holdings.specs.declared.holdings.stock.Stock.{Stock}
 use Rattle.repo_holdings.specs.declared.holdings.stored_parent.StoredParent.{StoredParent}
-use Rattle.repo_store.specs.StoreList.{StoreList}
 use Rattle.repo_catalog.specs.declared.entry.Entry.{Entry}
 use Rattle.repo_catalog.specs.Entries.{EntryList}
 use Rattle.repo_holdings.specs.Records.{Packet}
-use Rattle.repo_holdings.specs.Noted.{NotesState}
-use Rattle.repo_holdings.specs.Gaining.{AreKept, HaveRoom}
-use Rattle.repo_holdings.specs.Listed.{listing_at, listed_shape}
+use Rattle.repo_holdings.specs.Gaining.{AreTied}
+use Rattle.repo_holdings.specs.Stock.{AreKept, KeepsAll, HaveRoom}
+use Rattle.repo_holdings.specs.Listed.{listing_at, listed_shape, member_catalogue}
 use Rattle.repo_holdings.specs.StoredParents.{HasParent, IsStoredParent, IsListedBy}
 use Rattle.repo_holdings.specs.HoldingsState.{HoldingsState, held_plan}
 use Rattle.repo_holdings.specs.HoldingsFields.{state, IsHoldings}
@@ -27,8 +28,9 @@ use Rattle.repo_holdings.proofs.AskedLemmas.{asked_segment}
 -- the plan is that of what is seen, with what is spare
 pub plan_is : (m : Inside) → IsHoldings m → m.stock.plan ≡ record (held_plan (state m)) { spare = m.stock.plan.spare }
 plan_is m is =
-    same_holdings m.stock.plan (record (held_plan (state m)) { spare = m.stock.plan.spare }) refl is.kept.tied.held
-    is.kept.tied.shapes refl refl refl refl
+    let tied = is.kept.sound.tied in
+    same_holdings m.stock.plan (record (held_plan (state m)) { spare = m.stock.plan.spare }) refl tied.held tied.shapes
+    refl refl refl refl
 
 -- a reading that looks at no room is that of what is seen
 pub reading : {A : Type 0} (f : PlanState → A) (m : Inside) (h : HoldingsState) → IsHoldings m → state m ≡ h
@@ -45,7 +47,7 @@ asked_of m h t is view asked = reading (λ p. may_be_asked_for p t) m h is view 
 pub segment_of : (m : Inside) (h : HoldingsState) (t : Part) → IsHoldings m → state m ≡ h
     → may_be_asked_for (held_plan h) t ≡ true → (t.part == 0) ≡ false → HasParent m.stock.store.packets t
 segment_of m h t is view asked following =
-    asked_segment m.stock.plan m.stock.store.packets t is.kept.tied (asked_of m h t is view asked) following
+    asked_segment m.stock.plan m.stock.store.packets t is.kept.sound.tied (asked_of m h t is view asked) following
 
 pub not_zero : (n : ℕ) → (n ≡ 0 → ⊥) → (n == 0) ≡ false
 not_zero n h = false_from_ne_true (n == 0) (λ e. h (eqb-true n 0 e))
@@ -71,40 +73,41 @@ still_lists m h t r is view asked following lists stored =
 
 -- ---- what stays where room is made
 
-kept_with : (plan : PlanState) (n : ℕ) (packets : List Packet) (notes after : NotesState) (entries : List Entry)
-    → after.names ≡ notes.names → after.withdrawn ≡ notes.withdrawn → AreKept plan packets notes entries
-    → AreKept (record plan { spare = n }) packets after entries
-kept_with plan n packets notes after entries names withdrawn kept = record {
-  tied = record {
-    in_order = kept.tied.in_order;
-    held = kept.tied.held;
-    shapes = kept.tied.shapes;
-    recorded = kept.tied.recorded;
-    indexed = kept.tied.indexed;
+tied_still : (plan now : PlanState) (n : ℕ) (packets stored : List Packet) → now ≡ record plan { spare = n }
+    → stored ≡ packets → AreTied plan packets → AreTied now stored
+tied_still plan now n packets stored planned same tied = rw (planned, same) (record {
+  in_order = tied.in_order;
+  held = tied.held;
+  shapes = tied.shapes;
+  recorded = tied.recorded;
+  indexed = tied.indexed;
+})
+
+pub kept_still : (old new : Stock) (entries listed : List Entry) → KeepsAll old new → listed ≡ entries
+    → AreKept old entries → AreKept new listed
+kept_still old new entries listed same listed_same kept = record {
+  sound = record {
+    tied =
+        tied_still old.plan new.plan new.plan.spare old.store.packets new.store.packets same.plan same.store
+        kept.sound.tied;
+    noted = rw same.store (record {
+      withdrawn = λ q. ap (λ (ws : List Pair). contains pair_cmp ws q) same.withdrawn ∙ kept.sound.noted.withdrawn q;
+      names = λ q l listed none.
+          ap (λ (ns : List (Pair × List Component)). value_of pair_cmp ns q) same.names
+          ∙ kept.sound.noted.names q l listed none;
+    });
   };
-  noted = record {
-    withdrawn = λ q. ap (λ (ws : List Pair). contains pair_cmp ws q) withdrawn ∙ kept.noted.withdrawn q;
-    names = λ q l listed none.
-        ap (λ (ns : List (Pair × List Component)). value_of pair_cmp ns q) names ∙ kept.noted.names q l listed none;
-  };
-  listed = kept.listed;
+  listed = listed_same ∙ kept.listed ∙ sym (ap member_catalogue same.store);
 }
 
-pub kept_still : (plan after : PlanState) (n : ℕ) (packets stored : List Packet) (notes noted : NotesState)
-    (entries listed : List Entry)
-    → after ≡ record plan { spare = n } → stored ≡ packets → noted.names ≡ notes.names
-    → noted.withdrawn ≡ notes.withdrawn → listed ≡ entries → AreKept plan packets notes entries
-    → AreKept after stored noted listed
-kept_still plan after n packets stored notes noted entries listed planned same names withdrawn listed_same kept =
-    rw (planned, same, listed_same) (kept_with plan n packets notes noted entries names withdrawn kept)
-
 -- room for one number and for another is room for the greater
-pub most_room : (plan : PlanState) (store : StoreList) (notes : NotesState) (catalogue : EntryList) (n k most : ℕ)
-    → HaveRoom n plan store notes catalogue → HaveRoom k plan store notes catalogue → most ≡ max n k
-    → HaveRoom most plan store notes catalogue
-most_room plan store notes catalogue n k most a b is = record {
+pub most_room : (s : Stock) (p : Pending) (catalogue : EntryList) (n k most : ℕ) → HaveRoom n s p catalogue
+    → HaveRoom k s p catalogue → most ≡ max n k → HaveRoom most s p catalogue
+most_room s p catalogue n k most a b is = record {
   for_plan = omega (arith, a.for_plan, b.for_plan, is);
   for_store = omega (arith, a.for_store, b.for_store, is);
   for_notes = omega (arith, a.for_notes, b.for_notes, is);
   for_catalogue = omega (arith, a.for_catalogue, b.for_catalogue, is);
+  for_fresh = omega (arith, a.for_fresh, b.for_fresh, is);
+  for_gone = omega (arith, a.for_gone, b.for_gone, is);
 }

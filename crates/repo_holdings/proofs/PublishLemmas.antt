@@ -28,7 +28,8 @@ use Rattle.repo_holdings.specs.Listed.{stored_at, listing_in, stated_at, listing
 use Rattle.repo_holdings.specs.Listed.{is_withdrawn}
 use Rattle.repo_holdings.specs.StoredParents.{index_count, lists_at, ListsAsMany}
 use Rattle.repo_holdings.specs.Gaining.{KeepsOthers, summary_of, summary_shape, shape_in_summary}
-use Rattle.repo_holdings.specs.Changing.{withdraws_too}
+use Rattle.repo_holdings.specs.Noted.{NotesState}
+use Rattle.repo_holdings.specs.Changing.{withdraws_too, IsSaidNewly}
 use Rattle.repo_holdings.specs.NewPublications.{as_parts, with_packets, IsNew, ListInTurn, ArePackets}
 use Rattle.repo_holdings.specs.HoldingsState.{HoldingsState, held_plan}
 use Rattle.repo_holdings.specs.HoldingsFields.{state, IsHoldings}
@@ -328,7 +329,7 @@ module _ (packets after : List Packet) (pair : Pair) (made : List (List ℕ)) (s
     go [] h = absurd h
     go (octets ∷ following) h = h.0
 
-  pub publication_stated : option_map summary_of (stated_at after pair) ≡ Some summary
+  publication_stated : option_map summary_of (stated_at after pair) ≡ Some summary
   publication_stated =
       ap (λ (o : Option (List ℕ)). option_map summary_of (option_and_then stated_in o)) record_stored ∙ first_reported
 
@@ -351,7 +352,7 @@ module _ (packets after : List Packet) (pair : Pair) (made : List (List ℕ)) (s
       ∙ puts_aside pair 0 made packets (part_of q x) (λ y h. other_part pair q x y other)
 
   -- what is withdrawn
-  pub withdrawn_published : (withdrawn : List Pair) → Rises part_cmp (keys packets) → Rises part_cmp (keys after)
+  withdrawn_published : (withdrawn : List Pair) → Rises part_cmp (keys packets) → Rises part_cmp (keys after)
       → ((q : Pair) → contains pair_cmp withdrawn q ≡ is_withdrawn packets q) → (q : Pair)
       → (withdraws_too pair (Some summary) q || contains pair_cmp withdrawn q) ≡ is_withdrawn after q
   withdrawn_published withdrawn before later were q =
@@ -360,6 +361,16 @@ module _ (packets after : List Packet) (pair : Pair) (made : List (List ℕ)) (s
       ∙ ap (λ (b : Bool). withdraws q (pair, first_octets made) || b) (were q)
       ∙ sym (withdrawn_more packets after pair before later (λ k other. others_aside k other 0) (first_octets made)
       none_before record_stored q)
+
+  -- the record says it newly
+  pub said_published : (notes : NotesState) → Rises part_cmp (keys packets) → Rises part_cmp (keys after)
+      → ((q : Pair) → contains pair_cmp notes.withdrawn q ≡ is_withdrawn packets q)
+      → IsSaidNewly pair (Some summary) notes after
+  said_published notes before later were = record {
+    summary = publication_stated;
+    named = λ none. absurd cc;
+    withdrawn = withdrawn_published notes.withdrawn before later were;
+  }
 
 -- ---- room
 

@@ -1,4 +1,4 @@
--- The plan, the packets, the notes and the catalogue of a member, which belong together, and packets that come.
+-- The plan and the packets of a member, which belong together, and packets that come.
 use Rattle.std.specs.Prelude.{◌≡◌, ℕ, ◌+◌, ◌≤◌, true, false, List, Option, Some, None, option_map, is_some, IsOk, ◌==◌}
 use Rattle.std.specs.Prelude.{if◌then◌else◌}
 use Rattle.ndn_data.specs.Data.{data_of}
@@ -13,13 +13,12 @@ use Rattle.repo_object.specs.Publication.RecordSays.{Lists, WithdrawsNumber}
 use Rattle.repo_object.specs.Verdict.{stated_in}
 use Rattle.repo_store.specs.StoreList.{StoreList}
 use Rattle.repo_catalog.specs.declared.entry.Entry.{Entry}
-use Rattle.repo_catalog.specs.Entries.{EntryList, with_entry}
+use Rattle.repo_catalog.specs.Entries.{with_entry}
 use Rattle.repo_holdings.specs.declared.record_summary.RecordSummary.{RecordSummary}
 use Rattle.repo_holdings.specs.declared.record_summary.RecordSummary.TheVariants.{Object, Withdrawal}
 use Rattle.repo_holdings.specs.Records.{Packet}
-use Rattle.repo_holdings.specs.Listed.{stored_at, stated_at, listed_shape, shapes_in, member_catalogue}
+use Rattle.repo_holdings.specs.Listed.{stored_at, stated_at, listed_shape, shapes_in}
 use Rattle.repo_holdings.specs.StoredParents.{lists_at, ListsAsMany}
-use Rattle.repo_holdings.specs.Noted.{NotesState, AreNotes}
 
 -- a plan holds what is stored, and knows what the stored records say; the record of each stored part is stored, and
 -- each stored index packet lists as many digests as it must
@@ -32,27 +31,10 @@ pub record AreTied (plan : PlanState) (packets : List Packet) : Type 0 where
   pub indexed : (t : Part) (octets : List ℕ) → value_of part_cmp packets t ≡ Some octets
       → ListsAsMany octets (lists_at packets t)
 
--- and the notes are those of what is stored, and the entries those of the objects that are stored wholly and not
--- withdrawn
-pub record AreKept (plan : PlanState) (packets : List Packet) (notes : NotesState) (entries : List Entry) : Type 0
-  where
-    pub tied : AreTied plan packets
-    pub noted : AreNotes notes packets
-    pub listed : entries ≡ member_catalogue packets
-
 -- with one more entry, if there is one
 abbrev pub with_listed : Option Entry → List Entry → List Entry
 with_listed None entries = entries
 with_listed (Some e) entries = with_entry e entries
-
--- there is room for so many parts, each of which may be held and tried, for what as many records say, and for as many
--- entries
-pub record HaveRoom (n : ℕ) (plan : PlanState) (store : StoreList) (notes : NotesState) (catalogue : EntryList) : Type 0
-  where
-    pub for_plan : n + n ≤ plan.spare
-    pub for_store : n ≤ store.spare
-    pub for_notes : n ≤ notes.spare
-    pub for_catalogue : n ≤ catalogue.spare
 
 -- there is room to hold so many parts
 pub record HaveRoomFor (n : ℕ) (plan : PlanState) (store : StoreList) : Type 0 where

@@ -1,7 +1,7 @@
 -- How what is held is kept.
-use Rattle.std.specs.Prelude.{◌≡◌, ◌≤◌, [], vec_capacity}
+use Rattle.std.specs.Prelude.{◌≡◌, []}
 use Rattle.repo_holdings.specs.declared.holdings.Holdings.TheInside.{Inside}
-use Rattle.repo_holdings.specs.Gaining.{AreKept, HaveRoom}
+use Rattle.repo_holdings.specs.Stock.{AreKept, HaveRoom}
 use Rattle.repo_holdings.specs.HoldingsState.{HoldingsState}
 
 -- what the fields say
@@ -18,9 +18,7 @@ state m = record {
 -- plan, notes and catalogue are those of what is stored, no entry waits to be listed or to be removed, and there is the
 -- room that is spare
 pub record IsHoldings (m : Inside) : Type 0 where
-  pub kept : AreKept m.stock.plan m.stock.store.packets m.stock.notes m.catalogue.entries
-  pub room : HaveRoom m.spare m.stock.plan m.stock.store m.stock.notes m.catalogue
+  pub kept : AreKept m.stock m.catalogue.entries
+  pub room : HaveRoom m.spare m.stock m.pending m.catalogue
   pub none_fresh : m.pending.fresh.items ≡ []
-  pub room_fresh : m.spare ≤ vec_capacity m.pending.fresh
   pub none_gone : m.pending.gone.items ≡ []
-  pub room_gone : m.spare ≤ vec_capacity m.pending.gone

@@ -1,9 +1,13 @@
 -- The packets that are stored, with their plan and what their records said.
-use Rattle.std.specs.Prelude.{◌≡◌, ℕ, ◌+◌, ◌-◌, ◌≤◌, List}
+use Rattle.std.specs.Prelude.{◌≡◌, ℕ, ◌+◌, ◌-◌, ◌≤◌, List, vec_capacity}
 use Rattle.repo_plan.specs.declared.part.Part.{Part}
 use Rattle.repo_plan.specs.Plan.{after_hold, uses_room}
 use Rattle.repo_store.specs.StoreList.{with_packet}
+use Rattle.repo_catalog.specs.declared.entry.Entry.{Entry}
+use Rattle.repo_catalog.specs.Entries.{EntryList}
+use Rattle.repo_holdings.specs.declared.holdings.pending.Pending.{Pending}
 use Rattle.repo_holdings.specs.declared.holdings.stock.Stock.{Stock}
+use Rattle.repo_holdings.specs.Listed.{member_catalogue}
 use Rattle.repo_holdings.specs.Noted.{AreNotes}
 use Rattle.repo_holdings.specs.Gaining.{AreTied, shape_in_summary}
 
@@ -12,11 +16,33 @@ pub record IsSound (s : Stock) : Type 0 where
   pub tied : AreTied s.plan s.store.packets
   pub noted : AreNotes s.notes s.store.packets
 
+-- they are, and the entries are those of the objects that are stored wholly and not withdrawn
+pub record AreKept (s : Stock) (entries : List Entry) : Type 0 where
+  pub sound : IsSound s
+  pub listed : entries ≡ member_catalogue s.store.packets
+
+-- nothing changed but the room
+pub record KeepsAll (old new : Stock) : Type 0 where
+  pub plan : new.plan ≡ record old.plan { spare = new.plan.spare }
+  pub store : new.store.packets ≡ old.store.packets
+  pub names : new.notes.names ≡ old.notes.names
+  pub withdrawn : new.notes.withdrawn ≡ old.notes.withdrawn
+
 -- there is room for so many changes of the plan, for so many packets, and for what as many records say
 pub record HasRoom (changes packets : ℕ) (s : Stock) : Type 0 where
   pub for_plan : changes ≤ s.plan.spare
   pub for_store : packets ≤ s.store.spare
   pub for_notes : packets ≤ s.notes.spare
+
+-- there is room for so many parts, each of which may be held and tried, for what as many records say, for as many
+-- entries, and for as many changes that wait
+pub record HaveRoom (n : ℕ) (s : Stock) (p : Pending) (catalogue : EntryList) : Type 0 where
+  pub for_plan : n + n ≤ s.plan.spare
+  pub for_store : n ≤ s.store.spare
+  pub for_notes : n ≤ s.notes.spare
+  pub for_catalogue : n ≤ catalogue.spare
+  pub for_fresh : n ≤ vec_capacity p.fresh
+  pub for_gone : n ≤ vec_capacity p.gone
 
 -- a part is held from now on, with its packet, for which room was used
 pub record HoldsToo (t : Part) (octets : List ℕ) (old new : Stock) : Type 0 where

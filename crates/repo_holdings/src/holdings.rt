@@ -4,7 +4,7 @@ ghost use Rattle.repo_plan.specs.Parts.{part_cmp};
 ghost use Rattle.repo_plan.specs.Sound.{PlanIsSound};
 ghost use Rattle.repo_store.specs.Served.{served};
 ghost use Rattle.repo_holdings.specs.Listed.{member_catalogue};
-ghost use Rattle.repo_holdings.specs.Gaining.{HaveRoom};
+ghost use Rattle.repo_holdings.specs.Stock.{HaveRoom, KeepsAll};
 ghost use Rattle.repo_holdings.specs.HoldingsState.{nothing_held, held_plan, knows_too};
 
 mod claiming;
@@ -96,15 +96,7 @@ impl Holdings {
         ensures ok { OnOk result (self.new ≡ record self.old { spare = max self.old.spare n }) }
         ensures err { OnErr result (self.new ≡ self.old) }
     {
-        make_room(
-            &mut self.stock.plan,
-            &mut self.stock.store,
-            &mut self.stock.notes,
-            &mut self.catalogue,
-            n,
-        )?;
-        self.pending.fresh.reserve(n)?;
-        self.pending.gone.reserve(n)?;
+        make_room(&mut self.stock, &mut self.pending, &mut self.catalogue, n)?;
         self.spare = self.spare.max(n);
         Ok(())
     }
@@ -172,26 +164,26 @@ impl Holdings {
 
 // Makes room for so many parts, records and entries.
 fn make_room(
-    plan: &mut Plan,
-    store: &mut Store,
-    notes: &mut Notes,
+    stock: &mut Stock,
+    pending: &mut Pending,
     catalogue: &mut Catalogue,
     n: usize,
 ) -> Result<(), AllocError>
-    ensures room { OnOk result (HaveRoom n plan.new store.new notes.new catalogue.new) }
-    ensures still { (k : ℕ) → HaveRoom k plan.old store.old notes.old catalogue.old
-        → HaveRoom k plan.new store.new notes.new catalogue.new }
-    ensures plan { plan.new ≡ record plan.old { spare = plan.new.spare } }
-    ensures store { store.new.packets ≡ store.old.packets }
-    ensures names { notes.new.names ≡ notes.old.names }
-    ensures withdrawn { notes.new.withdrawn ≡ notes.old.withdrawn }
+    ensures room { OnOk result (HaveRoom n stock.new pending.new catalogue.new) }
+    ensures still { (k : ℕ) → HaveRoom k stock.old pending.old catalogue.old
+        → HaveRoom k stock.new pending.new catalogue.new }
+    ensures stock { KeepsAll stock.old stock.new }
+    ensures fresh { pending.new.fresh.items ≡ pending.old.fresh.items }
+    ensures gone { pending.new.gone.items ≡ pending.old.gone.items }
     ensures catalogue { catalogue.new.entries ≡ catalogue.old.entries }
 {
     let Some(twice) = n.checked_mul(2) else {
         return Err(AllocError);
     };
-    plan.reserve(twice)?;
-    store.reserve(n)?;
-    notes.reserve(n)?;
+    stock.plan.reserve(twice)?;
+    stock.store.reserve(n)?;
+    stock.notes.reserve(n)?;
+    pending.fresh.reserve(n)?;
+    pending.gone.reserve(n)?;
     catalogue.reserve(n)
 }

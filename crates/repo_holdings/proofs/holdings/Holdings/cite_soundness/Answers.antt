@@ -6,6 +6,6 @@ use Rattle.repo_holdings.proofs.holdings.Holdings.cite_soundness.Goals as goal
 
 pub returns : goal.returns
 returns c =
+    let tied = c.self.invariant.kept.sound.tied in
     subst (λ (h : HoldingsState). PlanIsSound (held_plan h)) c.self.view_is
-    (sound_as c.self.inside.stock.plan _ refl c.self.invariant.kept.tied.held c.self.invariant.kept.tied.shapes refl
-    refl refl c.cite_soundness.ensures)
+    (sound_as c.self.inside.stock.plan _ refl tied.held tied.shapes refl refl refl c.cite_soundness.ensures)

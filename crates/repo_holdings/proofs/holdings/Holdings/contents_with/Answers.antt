@@ -42,7 +42,7 @@ returns-clause-contents c =
     let pair : Pair = (c.args.publisher, c.args.seq) in
     let all : c.loop-x.x ≡ c.in-Some.shape.segments = omega (arith, c.loop-x-test.false, c.loop-x.auto.x-end) in
     contents_are c.self.inside.stock.plan c.self.inside.stock.store.packets after pair c.in-Some.shape
-    c.loop-x.contents.items c.self.invariant.kept.tied
+    c.loop-x.contents.items c.self.invariant.kept.sound.tied
     (subst (λ (h : HoldingsState). StayStored h.store after) (sym c.self.view_is)
     (fetched_stays (fetched_for c.args.jobs.now c.args.parts.now) c.args.self.now.store))
     (sym c.in-Some.is ∙ c.shape.ensures.shape)

@@ -31,14 +31,16 @@ take_all-taken-requires-clause-ready c =
     let few = c.requires.room in
     let spare = ap (λ (h : HoldingsState). h.spare) c.self.view_is in
     record {
-      sound = record { tied = before.kept.tied; noted = before.kept.noted };
+      sound = before.kept.sound;
       room = record {
         for_plan = omega (arith, few, spare, before.room.for_plan);
         for_store = omega (arith, few, spare, before.room.for_store);
         for_notes = omega (arith, few, spare, before.room.for_notes);
       };
-      fresh_room = omega (arith, few, spare, ap (λ (fs : List Entry). length fs) before.none_fresh, before.room_fresh);
-      gone_room = omega (arith, few, spare, ap (λ (ps : List Pair). length ps) before.none_gone, before.room_gone);
+      fresh_room =
+          omega (arith, few, spare, ap (λ (es : List Entry). length es) before.none_fresh, before.room.for_fresh);
+      gone_room =
+          omega (arith, few, spare, ap (λ (qs : List Pair). length qs) before.none_gone, before.room.for_gone);
     }
 
 -- before, no entry waits
@@ -54,7 +56,7 @@ nothing_waits m is = record {
       absurd (true≢false (sym h ∙ ap (λ (gone : List Pair). contains pair_cmp gone q) is.none_gone));
   apart = rw is.none_fresh apart_none;
   apart_gone = rw is.none_gone (λ q. omega arith);
-  in_order = rw is.kept.listed (alone_in_order m.stock.store.packets is.kept.tied.in_order);
+  in_order = rw is.kept.listed (alone_in_order m.stock.store.packets is.kept.sound.tied.in_order);
 }
 
 pub add_all_reserved-requires-clause-apart : goal.add_all_reserved-requires-clause-apart
@@ -78,8 +80,7 @@ invariant_of-self c =
     let tried = c.len-tried.ensures in
     record {
       kept = record {
-        tied = taken.sound.tied;
-        noted = taken.sound.noted;
+        sound = taken.sound;
         listed =
             ap (λ (k : EntryList). k.entries) c.remove_gone.ensures.removed
             ∙ ap (without_all c.take_all-taken.new.pending.gone.items) added.entries
@@ -101,11 +102,10 @@ invariant_of-self c =
               ap (λ (k : EntryList). k.spare) c.remove_gone.ensures.removed,
               before.room.for_catalogue,
             );
+        for_fresh = omega (arith, tried, few, spare, taken.waiting.fresh_room, added.capacity, before.room.for_fresh);
+        for_gone =
+            omega (arith, tried, few, spare, taken.waiting.gone_room, c.remove_gone.ensures.room, before.room.for_gone);
       };
       none_fresh = added.moved;
-      room_fresh =
-          omega (arith, tried, few, spare, taken.waiting.fresh_room, added.capacity, before.room_fresh);
       none_gone = c.remove_gone.ensures.gone;
-      room_gone =
-          omega (arith, tried, few, spare, taken.waiting.gone_room, c.remove_gone.ensures.room, before.room_gone);
     }
