@@ -1,12 +1,12 @@
 // How a catalogue changes by what is stored newly of one publication.
-ghost use Rattle.std.specs.Prelude.{◌≡◌, ◌+◌, ◌<◌, ◌≤◌, Some, IsSomeAnd};
+ghost use Rattle.std.specs.Prelude.{◌≡◌, ◌+◌, ◌<◌, ◌≤◌, Some, IsSomeAnd, if◌then◌else◌};
 ghost use Rattle.std.specs.List.{All};
 ghost use Rattle.sorted_lists.specs.SortedList.{contains, value_of};
 ghost use Rattle.repo_plan.specs.Parts.{Pair, pair_cmp};
 ghost use Rattle.repo_holdings.specs.Listed.{listing_at, entry_at, is_withdrawn};
 ghost use Rattle.repo_holdings.specs.Contents.{IsDigestIn};
 ghost use Rattle.repo_holdings.specs.Gaining.{AreTied};
-ghost use Rattle.repo_holdings.specs.Changing.{changed, change_by, IsSaidNewly, AreNotedWith};
+ghost use Rattle.repo_holdings.specs.Changing.{changed, change_by, lists_entry, IsSaidNewly, AreNotedWith};
 
 use crate::contents::{ContentsDigest, given_or_made};
 use crate::notes::Notes;
@@ -24,6 +24,26 @@ pub(crate) enum Change {
 }
 
 impl Change {
+    // An entry is listed, if there is one.
+    fn listing(entry: Option<Entry>) -> Change
+        ensures { result ≡ lists_entry entry }
+    {
+        match entry {
+            Some(entry) => Change::Lists(entry),
+            None => Change::Nothing,
+        }
+    }
+
+    // What is withdrawn is removed, if it was not withdrawn before.
+    fn removing(fresh: bool, publisher: u32, seq: u16) -> Change
+        ensures { result ≡ (if fresh then Change.Removes publisher seq else Change.Nothing) }
+    {
+        if fresh {
+            return Change::Removes { publisher, seq };
+        }
+        Change::Nothing
+    }
+
     // Makes the change, where there is room for an entry. It takes no memory.
     pub(crate) fn make(self, catalogue: &mut Catalogue)
         requires { 0 < catalogue.old.spare }
@@ -64,18 +84,14 @@ pub(crate) fn change_by_summary(
     match summary {
         Some(RecordSummary::Withdrawal { seq }) => {
             let publisher = publication.0;
-            if notes.note_withdrawn((publisher, seq)) {
-                return Change::Removes { publisher, seq };
-            }
-            return Change::Nothing;
+            let fresh = notes.note_withdrawn((publisher, seq));
+            return Change::removing(fresh, publisher, seq);
         }
         Some(RecordSummary::Object { name, .. }) => notes.note_name(publication, name),
         None => {}
     }
-    match entry_if_whole(plan, store, notes, publication, digests) {
-        Some(entry) => Change::Lists(entry),
-        None => Change::Nothing,
-    }
+    let entry = entry_if_whole(plan, store, notes, publication, digests);
+    Change::listing(entry)
 }
 
 // The entry of an object whose name is noted, where its record and every part after it are stored and it is not

@@ -14,30 +14,19 @@ use Rattle.repo_holdings.proofs.WholeLemmas.{some_of}
 use Rattle.repo_holdings.proofs.changes.change_by_summary.Goals.{in-Some-Object, in-None}
 use Rattle.repo_holdings.proofs.changes.change_by_summary.Goals as goal
 
-pub returns-then-note_withdrawn-clause-noted : goal.returns-then-note_withdrawn-clause-noted
-returns-then-note_withdrawn-clause-noted c =
-    noted_withdrawn c.args.store.now.packets c.args.publication c.in-Some-Withdrawal.field-0 c.in-Some-Withdrawal.seq
-    c.args.notes.now c.note_withdrawn.new.self c.in-Some-Withdrawal.field-0-is
-    (subst (λ (o : Option RecordSummary). IfSome o (λ x. option_map summary_of (stated_at c.args.store.now.packets
-    c.args.publication) ≡ Some x)) c.in-Some-Withdrawal.is c.requires.said.summary)
-    c.note_withdrawn.ensures.withdrawn c.note_withdrawn.ensures.names
-    (λ q. ap (λ (o : Option RecordSummary). withdraws_too c.args.publication o q
-    || contains pair_cmp c.args.notes.now.withdrawn q) (sym c.in-Some-Withdrawal.is)
-    ∙ c.requires.said.withdrawn q)
-
 pub returns-in-Some-Withdrawal-clause-noted : goal.returns-in-Some-Withdrawal-clause-noted
 returns-in-Some-Withdrawal-clause-noted c =
     noted_withdrawn c.args.store.now.packets c.args.publication c.in-Some-Withdrawal.field-0 c.in-Some-Withdrawal.seq
-    c.args.notes.now c.note_withdrawn.new.self c.in-Some-Withdrawal.field-0-is
+    c.args.notes.now c.note_withdrawn-fresh.new.self c.in-Some-Withdrawal.field-0-is
     (subst (λ (o : Option RecordSummary). IfSome o (λ x. option_map summary_of (stated_at c.args.store.now.packets
     c.args.publication) ≡ Some x)) c.in-Some-Withdrawal.is c.requires.said.summary)
-    c.note_withdrawn.ensures.withdrawn c.note_withdrawn.ensures.names
+    c.note_withdrawn-fresh.ensures.withdrawn c.note_withdrawn-fresh.ensures.names
     (λ q. ap (λ (o : Option RecordSummary). withdraws_too c.args.publication o q
     || contains pair_cmp c.args.notes.now.withdrawn q) (sym c.in-Some-Withdrawal.is)
     ∙ c.requires.said.withdrawn q)
 
-pub entry_if_whole-requires-clause-named : goal.entry_if_whole-requires-clause-named
-entry_if_whole-requires-clause-named c = elim c.match-summary.branch [
+pub entry_if_whole-entry-requires-clause-named : goal.entry_if_whole-entry-requires-clause-named
+entry_if_whole-entry-requires-clause-named c = elim c.match-summary.branch [
   | in-Some-Object w ↦
       let packets = c.args.store.now.packets in
       let pair : Pair = c.args.publication in
@@ -58,32 +47,17 @@ entry_if_whole-requires-clause-named c = elim c.match-summary.branch [
       (c.requires.said.named w.in-None.is)
 ]
 
-pub returns-in-Some-clause-noted : goal.returns-in-Some-clause-noted
-returns-in-Some-clause-noted c = elim c.match-summary.branch [
+pub returns-clause-noted : goal.returns-clause-noted
+returns-clause-noted c = elim c.match-summary.branch [
   | in-Some-Object w ↦
       noted_since c.args.store.now.packets c.args.publication c.args.notes.now c.match-summary.notes
-      c.entry_if_whole.new.notes
+      c.entry_if_whole-entry.new.notes
       (λ q other. ap (λ (n : NotesState). value_of pair_cmp n.names q) w.notes-is
       ∙ others_named c.args.publication w.in-Some-Object.name c.args.notes.now.names w.note_name.new.self.names
       w.note_name.ensures.names q other)
-      c.entry_if_whole.ensures.noted
+      c.entry_if_whole-entry.ensures.noted
   | in-None w ↦
       noted_since c.args.store.now.packets c.args.publication c.args.notes.now c.match-summary.notes
-      c.entry_if_whole.new.notes (λ q other. ap (λ (n : NotesState). value_of pair_cmp n.names q) w.notes-is)
-      c.entry_if_whole.ensures.noted
-]
-
-pub returns-in-None-entry_if_whole-clause-noted : goal.returns-in-None-entry_if_whole-clause-noted
-returns-in-None-entry_if_whole-clause-noted c = elim c.match-summary.branch [
-  | in-Some-Object w ↦
-      noted_since c.args.store.now.packets c.args.publication c.args.notes.now c.match-summary.notes
-      c.entry_if_whole.new.notes
-      (λ q other. ap (λ (n : NotesState). value_of pair_cmp n.names q) w.notes-is
-      ∙ others_named c.args.publication w.in-Some-Object.name c.args.notes.now.names w.note_name.new.self.names
-      w.note_name.ensures.names q other)
-      c.entry_if_whole.ensures.noted
-  | in-None w ↦
-      noted_since c.args.store.now.packets c.args.publication c.args.notes.now c.match-summary.notes
-      c.entry_if_whole.new.notes (λ q other. ap (λ (n : NotesState). value_of pair_cmp n.names q) w.notes-is)
-      c.entry_if_whole.ensures.noted
+      c.entry_if_whole-entry.new.notes (λ q other. ap (λ (n : NotesState). value_of pair_cmp n.names q) w.notes-is)
+      c.entry_if_whole-entry.ensures.noted
 ]
