@@ -1,6 +1,6 @@
 // What came of parts that were asked for.
-ghost use Rattle.std.specs.Prelude.{◌≡◌, ◌<◌, ◌≤◌, ◌^◌, [], ◌∷◌, length, vec_len, vec_capacity, map};
-ghost use Rattle.std.specs.Prelude.{option_map, is_some, count_by, sum_by};
+ghost use Rattle.std.specs.Prelude.{◌≡◌, ◌<◌, ◌≤◌, ◌^◌, [], ◌∷◌, vec_len, vec_capacity, map, is_some, count_by};
+ghost use Rattle.std.specs.Prelude.{sum_by};
 ghost use Rattle.std.specs.List.{All};
 ghost use Rattle.repo_holdings.specs.Contents.{IsDigestIn};
 ghost use Rattle.repo_catalog.specs.Entries.{without_all};
@@ -24,6 +24,18 @@ pub struct Tried {
     pub part: Part,
     pub attempts: u32,
     pub arrival: Option<Arrival>,
+}
+
+impl Tried {
+    // How many octets its packet has, or none if no packet came.
+    fn octets(&self) -> u64
+        ensures { result ≡ arrival_octets self.now }
+    {
+        match &self.arrival {
+            Some(arrival) => arrival.packet.octets().len() as u64,
+            None => 0,
+        }
+    }
 }
 
 /// What was taken: the parts that are held from now on and were not held, and the octets of their packets.
@@ -97,20 +109,15 @@ impl Stock {
         let mut parts = 0;
         let mut octets = 0;
         for tried in all {
-            let came = self.take_one(pending, tried, digests);
-            parts += u32::from(came.is_some());
-            octets += came.unwrap_or(0);
+            parts += u32::from(tried.arrival.is_some());
+            octets += tried.octets();
+            self.take_one(pending, tried, digests);
         }
         Taken { parts, octets }
     }
 
-    // Takes what came of one part. The answer is how many octets its packet has, if one came.
-    fn take_one(
-        &mut self,
-        pending: &mut Pending,
-        tried: Tried,
-        digests: &[ContentsDigest],
-    ) -> Option<u64>
+    // Takes what came of one part.
+    fn take_one(&mut self, pending: &mut Pending, tried: Tried, digests: &[ContentsDigest])
         requires ready { AreReady 1 self.old pending.old }
         requires takable { CanBeTaken self.old.plan self.old.store.packets tried }
         requires digests { All (IsDigestIn (with_fetched tried.part (came tried).packet self.old.store.packets))
@@ -118,20 +125,16 @@ impl Stock {
         ensures taken { HasTaken (tried ∷ []) self.old self.new }
         ensures sound { IsSound self.new }
         ensures waiting { HaveWaited 1 pending.old pending.new self.old.store.packets self.new.store.packets }
-        ensures came { result ≡ option_map (λ a. length a.packet) tried.arrival }
     {
         let Tried {
             part,
             attempts,
             arrival,
         } = tried;
-        let mut came = None;
         if let Some(arrival) = arrival {
-            came = Some(arrival.packet.octets().len() as u64);
             let change = self.gain(part, arrival, digests);
             pending.push(change);
         }
         self.plan.add_attempts_reserved(part, attempts);
-        came
     }
 }

@@ -1,12 +1,10 @@
-use Rattle.std.proofs.Common.{◌≡◌, Bool, true, false, cond, ℕ, List, [], map, length, Option, Some, None}
-use Rattle.std.proofs.Common.{option_map}
-use Rattle.std.proofs.Common.{unwrap_or, count_by, sum_by, is_some, refl, sym, ap, ◌∙◌, subst, arith}
+use Rattle.std.proofs.Common.{◌≡◌, Bool, true, false, cond, List, map, length, count_by, sum_by, is_some, sym, ap, ◌∙◌}
+use Rattle.std.proofs.Common.{subst, arith}
 use Rattle.std.specs.List.{All}
 use Rattle.std.specs.Vec.Iter.{into_iter_items}
 use Rattle.std.proofs.lemmas.List.Elements.{All-head, All-tail}
 use Rattle.std.proofs.lemmas.List.Sums.{sum_by-cons}
 use Rattle.repo_holdings.specs.declared.holdings.taking.Tried.{Tried}
-use Rattle.repo_holdings.specs.declared.record_summary.Arrival.{Arrival}
 use Rattle.repo_holdings.specs.Records.{Packet}
 use Rattle.repo_holdings.specs.Contents.{IsDigestIn}
 use Rattle.repo_holdings.specs.Taking.{came, arrival_octets, CanBeTaken, AreTakable, with_fetched, with_all_fetched}
@@ -15,8 +13,8 @@ use Rattle.repo_holdings.proofs.FreshLemmas.{digests_sooner, fetched_stays}
 use Rattle.repo_holdings.proofs.TakingLemmas.{still_takable, keeps_on}
 use Rattle.repo_holdings.proofs.holdings.stock.Stock.take_all.Goals as goal
 
-pub take_one-came-requires-clause-ready : goal.take_one-came-requires-clause-ready
-take_one-came-requires-clause-ready c =
+pub take_one-requires-clause-ready : goal.take_one-requires-clause-ready
+take_one-requires-clause-ready c =
     let fewer = ap (λ (r : List Tried). length r) c.in-Some.ensures.steps.0 in
     let before = c.loop-tried.invariant in
     let ready = c.requires.ready in
@@ -33,8 +31,8 @@ take_one-came-requires-clause-ready c =
     }
 
 -- what is reported of all that will be stored is true with one packet more
-pub take_one-came-requires-clause-digests : goal.take_one-came-requires-clause-digests
-take_one-came-requires-clause-digests c =
+pub take_one-requires-clause-digests : goal.take_one-requires-clause-digests
+take_one-requires-clause-digests c =
     let later = into_iter_items c.next.new.self in
     let packets = c.loop-tried.self.store.packets in
     let one : List Packet =
@@ -46,23 +44,13 @@ take_one-came-requires-clause-digests c =
     digests_sooner one (with_all_fetched (map came later) one) c.args.digests.now (fetched_stays (map came later) one)
     (subst (λ (p : List Packet). All (IsDigestIn p) c.args.digests.now) (sym all) c.requires.digests)
 
-pub take_one-came-requires-clause-takable : goal.take_one-came-requires-clause-takable
-take_one-came-requires-clause-takable c =
+pub take_one-requires-clause-takable : goal.take_one-requires-clause-takable
+take_one-requires-clause-takable c =
     let can = CanBeTaken c.loop-tried.self.plan c.loop-tried.self.store.packets in
     All-head can c.in-Some.tried (into_iter_items c.next.new.self)
     (subst (All can) c.in-Some.ensures.steps.0 c.loop-tried.invariant.takable.each)
 
-made : (o : Option Arrival) → is_some (option_map (λ (a : Arrival). length a.packet) o) ≡ is_some o
-made None = refl
-made (Some a) = refl
-
-counted : (o : Option Arrival)
-    → unwrap_or (option_map (λ (a : Arrival). length a.packet) o) 0
-    ≡ length (unwrap_or (option_map (λ (a : Arrival). a.packet) o) [])
-counted None = refl
-counted (Some a) = refl
-
-one_came : (c : goal.After-unwrap_or-octets) (b : Bool) → c.is_some.result ≡ b → c.from-parts.result ≡ cond b 1 0
+one_came : (c : goal.After-take_one) (b : Bool) → c.is_some.result ≡ b → c.from-parts.result ≡ cond b 1 0
 one_came c true p = rw p at c.from-parts.ensures
 one_came c false p = rw p at c.from-parts.ensures
 
@@ -71,20 +59,15 @@ loop-tried-preserved c =
     let inv = c.loop-tried.invariant in
     let packets = c.loop-tried.self.store.packets in
     let plan = c.loop-tried.self.plan in
-    let one_taken = c.take_one-came.ensures.taken in
-    let waiting = c.take_one-came.ensures.waiting in
+    let one_taken = c.take_one.ensures.taken in
+    let waiting = c.take_one.ensures.waiting in
     let rest = c.in-Some.ensures.steps.0 in
     let later = into_iter_items c.next.new.self in
     let fewer = ap (λ (r : List Tried). length r) rest in
     let takable = subst (AreTakable plan packets) rest inv.takable in
     let can = All-head (CanBeTaken plan packets) c.in-Some.tried later takable.each in
-    let one =
-    one_came c (is_some c.in-Some.tried.arrival)
-    (c.is_some.ensures ∙ ap is_some c.take_one-came.ensures.came ∙ made c.in-Some.tried.arrival) in
-    let octets =
-    c.unwrap_or-octets.ensures
-    ∙ ap (λ (o : Option ℕ). unwrap_or o 0) c.take_one-came.ensures.came
-    ∙ counted c.in-Some.tried.arrival in
+    let one = one_came c (is_some c.in-Some.tried.arrival) c.is_some.ensures in
+    let octets = c.octets-octets.ensures in
     let more_octets = sum_by-cons arrival_octets c.in-Some.tried later in
     let octets_so_far = ap (sum_by arrival_octets) rest in
     let more = sum_by-cons (λ (x : Tried). cond (is_some x.arrival) 1 0) c.in-Some.tried later in
@@ -97,8 +80,8 @@ loop-tried-preserved c =
           ap (with_all_tries (map came later)) one_taken.attempts
           ∙ sym (ap (λ (r : List Tried). with_all_tries (map came r) plan.attempts) rest) ∙ inv.attempts;
       others =
-          keeps_on c.args.self.now.plan plan c.take_one-came.new.self.plan inv.others one_taken.others;
-      sound = c.take_one-came.ensures.sound;
+          keeps_on c.args.self.now.plan plan c.take_one.new.self.plan inv.others one_taken.others;
+      sound = c.take_one.ensures.sound;
       listed = λ entries was. waiting.listed entries (inv.listed entries was);
       plan_room = omega (arith, fewer, inv.plan_room, one_taken.plan_room);
       store_room = omega (arith, fewer, inv.store_room, one_taken.store_room);
@@ -109,8 +92,8 @@ loop-tried-preserved c =
       fresh_room = omega (arith, inv.fresh_room, waiting.fresh_room);
       takable = record {
         each =
-            still_takable c.loop-tried.self c.take_one-came.new.self c.in-Some.tried inv.sound
-            c.take_one-came.ensures.sound can one_taken later takable.apart.0
+            still_takable c.loop-tried.self c.take_one.new.self c.in-Some.tried inv.sound
+            c.take_one.ensures.sound can one_taken later takable.apart.0
             (All-tail (CanBeTaken plan packets) c.in-Some.tried later takable.each);
         apart = takable.apart.1;
       };
