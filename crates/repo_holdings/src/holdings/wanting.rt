@@ -1,10 +1,10 @@
-ghost use Rattle.std.specs.Prelude.{◌≡◌, true, None, length, map, take, IfSome, IfOk};
+ghost use Rattle.std.specs.Prelude.{◌≡◌, true, length, map, take, IfOk};
 ghost use Rattle.std.specs.List.{All, filter};
 ghost use Rattle.repo_plan.specs.Plan.{may_be_asked_for, is_after, unclaimed};
 ghost use Rattle.repo_plan.specs.Leaps.{some_holds};
 ghost use Rattle.repo_holdings.specs.HoldingsState.{held_plan};
-ghost use Rattle.repo_holdings.specs.StoredParents.{lists_at, IsListedBy};
-ghost use Rattle.repo_holdings.specs.Wanting.{want_at, job_at, AreShortNames};
+ghost use Rattle.repo_holdings.specs.StoredParents.{lists_at};
+ghost use Rattle.repo_holdings.specs.Wanting.{want_at, job_at, CanBeWanted, AreShortNames};
 
 use super::Holdings;
 use super::stored_parent::StoredParent;
@@ -104,9 +104,7 @@ impl Holdings {
     ) -> Result<Want, AllocError>
         requires width { length publishers.now ≡ length self.now.known }
         requires names { AreShortNames publishers.now group.now }
-        requires asked { may_be_asked_for (held_plan self.now) part ≡ true }
-        requires listed { IfSome stored (λ r. IsListedBy self.now.store part r.now) }
-        requires none { stored ≡ None → part.part ≡ 0 }
+        requires wanted { CanBeWanted self.now part stored }
         ensures want { IfOk result (λ want. want ≡ want_at publishers.now group.now self.now.store part) }
         ensures lists { IfOk result (λ want. want.lists ≡ lists_at self.now.store part) }
     {
@@ -125,9 +123,7 @@ impl Holdings {
     ) -> Expected<'w>
         requires width { length publishers.now ≡ length self.now.known }
         requires names { AreShortNames publishers.now group.now }
-        requires asked { may_be_asked_for (held_plan self.now) part ≡ true }
-        requires listed { IfSome stored (λ r. IsListedBy self.now.store part r.now) }
-        requires none { stored ≡ None → part.part ≡ 0 }
+        requires wanted { CanBeWanted self.now part stored }
         ensures expected { result ≡ want_at publishers.now group.now self.now.store part }
         ensures lists { result.lists ≡ lists_at self.now.store part }
     {
