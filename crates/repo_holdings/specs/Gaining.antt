@@ -72,10 +72,10 @@ summary_in t octets = if t.part == 0 then option_map summary_of (stated_in octet
 abbrev pub shape_in_summary : Part → List ℕ → Option Shape
 shape_in_summary t octets = option_map summary_shape (summary_in t octets)
 
--- a packet that may be stored for a part, with the shape that it tells
-pub record IsPacketOf (packets : List Packet) (t : Part) (octets : List ℕ) (told : Option Shape) : Type 0 where
-  pub shape : is_some told ≡ (t.part == 0)
-  pub summary : told ≡ shape_in_summary t octets
+-- a packet that may be stored for a part, with the shape that it reports
+pub record IsPacketOf (packets : List Packet) (t : Part) (octets : List ℕ) (known : Option Shape) : Type 0 where
+  pub shape : is_some known ≡ (t.part == 0)
+  pub summary : known ≡ shape_in_summary t octets
   pub lists : ListsAsMany octets (lists_at packets t)
 
 -- a packet that came for a part, with what it says of its publication

@@ -44,7 +44,7 @@ impl Holdings {
 
 impl Stock {
     // A part that is asked for is held from now on, with the packet that came, where there is room, and what the packet
-    // tells is noted. The answer is what changes in the catalogue. Digests over contents that are given aren't made
+    // reports is noted. The answer is what changes in the catalogue. Digests over contents that are given aren't made
     // again.
     pub(super) fn gain(
         &mut self,
