@@ -3,7 +3,7 @@ use Rattle.std.specs.Vec.Iter.{into_iter_items}
 use Rattle.sorted_lists.specs.SortedList.{contains}
 use Rattle.repo_plan.specs.declared.part.Part.{Part}
 use Rattle.repo_plan.specs.declared.shape.Shape.{Shape}
-use Rattle.repo_plan.specs.Parts.{Pair, IsShape, pair_cmp, part_cmp, part_of, last_part}
+use Rattle.repo_plan.specs.Parts.{Pair, IsShape, part_cmp, part_of, last_part}
 use Rattle.repo_plan.specs.Plan.{PlanState}
 use Rattle.repo_store.specs.StoreList.{StoreList}
 use Rattle.repo_object.proofs.IndexLemmas.{index_few}
@@ -11,8 +11,8 @@ use Rattle.repo_holdings.specs.Gaining.{summary_shape}
 use Rattle.repo_holdings.specs.NewPublications.{as_parts, with_packets}
 use Rattle.repo_holdings.proofs.HoldingsLemmas.{not_zero}
 use Rattle.repo_holdings.proofs.PublishLemmas.{AreRemaining, first_listing, gained_none, gained_more, can_ask}
-use Rattle.repo_holdings.proofs.PublishLemmas.{not_claimed, room_kept, stated_first, not_stated, all_to_come}
-use Rattle.repo_holdings.proofs.PublishLemmas.{come_later}
+use Rattle.repo_holdings.proofs.PublishLemmas.{not_hidden, not_claimed, room_kept, stated_first, not_stated}
+use Rattle.repo_holdings.proofs.PublishLemmas.{all_to_come, come_later}
 use Rattle.repo_holdings.proofs.PublishLemmas.{reports_shape, lists_many, count_packets, packets_sized}
 use Rattle.repo_holdings.proofs.holdings.publishing.gain_all.Goals.{then-x-eq0, else-x-eq0}
 use Rattle.repo_holdings.proofs.holdings.publishing.gain_all.Goals as goal
@@ -87,8 +87,7 @@ gain-requires-clause-missing c =
             (subst IsShape (sym c.shape-shape.ensures)
             (packets_sized c.args.summary.now c.args.packets.items c.requires.packets))
             (omega (arith, fewer, c.loop-packet.invariant.count));
-        not_hidden =
-            ap (λ (ps : List Pair). contains pair_cmp ps pair) gained.others.hidden ∙ c.requires.new.not_hidden;
+        not_hidden = not_hidden _ _ pair _ c.loop-packet.x c.requires.new gained;
         not_claimed = not_claimed _ _ pair _ c.loop-packet.x c.requires.new gained;
       };
       not_held = gained.fresh c.loop-packet.x (omega arith);
