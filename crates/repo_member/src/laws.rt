@@ -40,19 +40,24 @@ ghost use Rattle.repo_member.specs.Calls.{NumbersNeverFall};
 ghost use Rattle.repo_member.specs.Calls.{KnownIsTheJoin, InEveryMember, HeldPacketsStay, HiddenForGood, HiddenIsGone};
 ghost use Rattle.repo_member.specs.Calls.{OthersPassed, OwnStored};
 
-/// A member by itself begins as its group has it, and each change of it is the group's change of that member.
-pub fn changes_are_the_groups()
+/// A member by itself begins as its group has it. What publishing, hearing, learning, its timer and a restart change in
+/// it is what the group changes in that member.
+pub fn publishing_and_syncing_are_the_groups()
     ensures begins { BeginsAlike }
     ensures publishes { PublishesAlike }
     ensures hears { HearsAlike }
     ensures learns { LearnsAlike }
     ensures fires { FiresAlike }
+    ensures resets { ResetsAlike }
+    ensures restarts { RestartsAlike }
+{}
+
+/// What fetching and inserting change in a member by itself is what the group changes in that member.
+pub fn fetching_and_inserting_are_the_groups()
     ensures claims { ClaimsAlike }
     ensures accepts { AcceptsAlike }
     ensures takes { TakesAlike }
     ensures ends_claims { EndsClaimsAlike }
-    ensures resets { ResetsAlike }
-    ensures restarts { RestartsAlike }
     ensures starts { StartsAlike }
     ensures keeps { KeepsAlike }
 {}
@@ -85,26 +90,41 @@ pub fn consistently_stored_lasts()
     ensures logs_grow { LogsGrow }
 {}
 
-/// Each change of a member by itself is what an event makes of it in any world in which it is a member, and what the
-/// world says of it there is what the member says. In a settle vectors and parts may come in any order.
-pub fn calls_are_events()
+/// In any world in which it is a member, publishing, withdrawing, hearing a sync Interest, its timer and a restart make
+/// of a member what the events of that name do.
+pub fn publishing_and_syncing_are_events()
     ensures publish { PublishIsEvent }
     ensures withdraw { WithdrawIsEvent }
     ensures deliver { DeliverIsEvent }
     ensures hear { HearIsEvent }
     ensures fire { FireIsEvent }
     ensures restart { RestartIsEvent }
+{}
+
+/// In any world in which it is a member, a claim, a lost claim, an answer of another member, octets from outside and a
+/// fetch make of a member what the events of that name do.
+pub fn fetching_is_events()
     ensures claim { ClaimIsEvent }
     ensures lose { LoseIsEvent }
     ensures answer { AnswerIsEvent }
     ensures feed { FeedIsEvent }
     ensures fetch { FetchIsEvent }
+{}
+
+/// In any world in which it is a member, commands and blocks make of a member what the events of that name do, and the
+/// world replies what the member answers.
+pub fn commands_and_blocks_are_events()
     ensures order { OrderIsEvent }
     ensures order_answer { OrderIsAnswered }
     ensures issue { IssueIsEvent }
     ensures issue_answer { IssueIsAnswered }
     ensures block { BlockIsEvent }
     ensures block_state { BlockStatesAlike }
+{}
+
+/// In any world in which it is a member, a settle makes of a member what that event does, where vectors and parts may
+/// come in any order. The parts that it can claim and its catalogue are those that the world says.
+pub fn settles_are_events()
     ensures learns { LearnsAtOnce }
     ensures learns_all { LearnsWhatAllKnow }
     ensures gathering { GatheringIsEvent }
@@ -213,22 +233,32 @@ pub fn claimed_parts_are_accepted()
     ensures taken { TakesTheConsistent }
 {}
 
-/// A member begins so, and stays so whatever it does, as long as what it hears and what it takes is what was
-/// published.
-pub fn consistent_members_stay_consistent()
+/// A new member is consistent: it is as each in a sound group is, and its stored packets are those of their parts. It
+/// stays so when it publishes, with the last block of an insertion too, and when others publish.
+pub fn publishing_keeps_members_consistent()
     ensures begins { BeginsConsistent }
     ensures publishes { PublishesConsistent }
+    ensures blocks { BlocksConsistent }
     ensures others { OthersPublish }
     ensures grown { LogsHaveGrown }
+{}
+
+/// A consistent member stays so when it learns or hears a vector of what was published, and when its timer fires or is
+/// set anew, or it starts again.
+pub fn syncing_keeps_members_consistent()
     ensures learns { LearnsConsistent }
     ensures hears { HearsConsistent }
-    ensures inserts { InsertsConsistent }
-    ensures blocks { BlocksConsistent }
-    ensures deletes { DeletesConsistent }
-    ensures obeys { ObeysConsistent }
     ensures fires { FiresConsistent }
     ensures resets { ResetsConsistent }
     ensures restarts { RestartsConsistent }
+{}
+
+/// A consistent member stays so when it inserts, deletes and answers commands, and when it fetches, as long as what it
+/// takes is what was published.
+pub fn fetching_and_obeying_keep_members_consistent()
+    ensures inserts { InsertsConsistent }
+    ensures deletes { DeletesConsistent }
+    ensures obeys { ObeysConsistent }
     ensures ends_claims { EndsClaimsConsistent }
     ensures claims { ClaimsConsistent }
     ensures loses { LosesConsistent }
