@@ -1,12 +1,14 @@
 -- What a mirror keeps of what came, and what it passes over.
 use Rattle.std.specs.Prelude.{◌≡◌, ℕ, Bool, true, false, not, List, [], map, filter, Option, Some, None, unwrap_or}
 use Rattle.std.specs.Prelude.{option_map}
-use Rattle.sorted_lists.specs.SortedList.{insert_keys}
+use Rattle.std.specs.List.{All}
+use Rattle.sorted_lists.specs.SortedList.{contains, insert_keys}
 use Rattle.repo_plan.specs.declared.part.Part.{Part}
 use Rattle.repo_plan.specs.Parts.{Pair, pair_cmp, pair_of}
 use Rattle.repo_plan.specs.Plan.{PlanState, holds, may_be_asked_for}
 use Rattle.repo_holdings.specs.declared.record_summary.RecordSummary.{RecordSummary}
 use Rattle.repo_holdings.specs.declared.record_summary.RecordSummary.TheVariants.{Object, Withdrawal}
+use Rattle.repo_holdings.specs.declared.holdings.taking.Tried.{Tried}
 use Rattle.repo_holdings.specs.Gaining.{summary_in}
 use Rattle.repo_holdings.specs.Hiding.{with_hidden}
 use Rattle.repo_holdings.specs.Taking.{Fetched, with_all_fetched, with_all_tries}
@@ -52,3 +54,8 @@ mirror_takes xs m = record m {
 pub record IsUnknownIn (plan : PlanState) (pair : Pair) : Type 0 where
   pub none_held : (t : Part) → pair_of t ≡ pair → holds plan t ≡ false
   pub record_alone : (t : Part) → pair_of t ≡ pair → may_be_asked_for plan t ≡ true → t.part ≡ 0
+
+-- The publications that are passed over are so unknown, and none of what is kept is a part of one.
+pub record ArePassedOver (plan : PlanState) (kept : List Tried) (passed : List Pair) : Type 0 where
+  pub unknown : (pair : Pair) → contains pair_cmp passed pair ≡ true → IsUnknownIn plan pair
+  pub others : All (λ x. contains pair_cmp passed (pair_of x.part) ≡ false) kept

@@ -1,11 +1,11 @@
 // What came of a fetch that a mirror planned.
-ghost use Rattle.std.specs.Prelude.{◌≡◌, ◌≤◌, ◌<◌, ◌^◌, true, false, length, vec_len};
+ghost use Rattle.std.specs.Prelude.{◌≡◌, ◌<◌, ◌^◌, length, vec_len};
 ghost use Rattle.std.specs.Prelude.{map, count_by, is_some, List, max};
 ghost use Rattle.std.specs.Prelude.{IfOk, IfSome, OnOk, OnErr, option_map};
 ghost use Rattle.std.specs.List.{All};
 ghost use Rattle.std.specs.List.Sorted.{IsSearchInRange, IsBinarySearchResult};
-ghost use Rattle.sorted_lists.specs.SortedList.{Rises, contains, insert_key};
-ghost use Rattle.repo_plan.specs.Parts.{Pair, pair_cmp, pair_of};
+ghost use Rattle.sorted_lists.specs.SortedList.{Rises, insert_key};
+ghost use Rattle.repo_plan.specs.Parts.{pair_cmp};
 ghost use Rattle.repo_plan.specs.Plan.{no_claims};
 ghost use Rattle.repo_object.specs.Verdict.{IsChecked};
 ghost use Rattle.repo_holdings.specs.Records.{Packet};
@@ -17,7 +17,7 @@ ghost use Rattle.repo_holdings.specs.Taking.{came, after_outcome, AreTakable};
 ghost use Rattle.repo_member.specs.Outcomes.{outcome_of};
 ghost use Rattle.repo_mirror.specs.PacketsFor.{IsCheckedFetch};
 ghost use Rattle.repo_mirror.specs.MirrorState.{fetch_plan};
-ghost use Rattle.repo_mirror.specs.Passing.{is_fetch_for, fetches_for, passed_over, mirror_takes, IsUnknownIn};
+ghost use Rattle.repo_mirror.specs.Passing.{is_fetch_for, fetches_for, passed_over, mirror_takes, ArePassedOver};
 ghost use Rattle.repo_mirror.specs.MirrorOutcomes.{IsMirrorOutcome};
 
 use super::Mirror;
@@ -74,10 +74,8 @@ impl Mirror {
         ensures checked { IfOk result (λ sorted. All IsCheckedFetch (map came sorted.kept.items)) }
         ensures takable { IfOk result (λ sorted. AreTakable (fetch_plan self.now) self.now.store sorted.kept.items) }
         ensures few { IfOk result (λ sorted. vec_len sorted.kept < 2 ^ 32) }
-        ensures unknown { IfOk result (λ sorted. (pair : Pair) → contains pair_cmp sorted.passed.items pair ≡ true
-            → IsUnknownIn (fetch_plan self.now) pair) }
-        ensures others { IfOk result (λ sorted.
-            All (λ x. contains pair_cmp sorted.passed.items (pair_of x.part) ≡ false) sorted.kept.items) }
+        ensures apart { IfOk result (λ sorted.
+            ArePassedOver (fetch_plan self.now) sorted.kept.items sorted.passed.items) }
     {
         self.held.cite_soundness();
         let mut kept = Vec::with_capacity(self.alloc, jobs.len())?;
@@ -192,9 +190,7 @@ fn take_sorted(
     requires kept { AreTakable (held_plan held.old) held.old.store kept.items }
     requires few { vec_len kept < 2 ^ 32 }
     requires in_order { Rises pair_cmp passed.now }
-    requires unknown { (pair : Pair) → contains pair_cmp passed.now pair ≡ true
-        → IsUnknownIn (held_plan held.old) pair }
-    requires others { All (λ x. contains pair_cmp passed.now (pair_of x.part) ≡ false) kept.items }
+    requires apart { ArePassedOver (held_plan held.old) kept.items passed.now }
     ensures ok { OnOk result (held.new ≡ after_outcome (map came kept.items) (record held.old {
       hidden = with_hidden passed.now held.old.hidden;
       spare = max held.old.spare (vec_len kept);

@@ -225,26 +225,27 @@ pub returns-clause-few : goal.returns-clause-few
 returns-clause-few g c =
     omega (arith, c.loop-job.invariant.few, c.requires.few, c.loop-job.kept.ok)
 
-pub returns-clause-unknown : goal.returns-clause-unknown
-returns-clause-unknown g c = c.loop-job.invariant.unknown
-
-pub returns-clause-others : goal.returns-clause-others
-returns-clause-others g c = λ k d low.
+pub returns-clause-apart : goal.returns-clause-apart
+returns-clause-apart g c =
     let m : MirrorState = c.args.self.now in
     let all = outcome_of c.args.jobs.now c.args.parts.now c.args.attempts.now in
     let kept : List Tried = c.loop-job.kept.items in
-    let x : Tried = slice_index_or kept k d in
-    false_from_ne_true (contains pair_cmp c.loop-job.passed.items (pair_of x.part)) (λ h.
-    let zero = (c.loop-job.invariant.unknown (pair_of x.part) h).record_alone x.part refl
-    (c.loop-job.invariant.can k d low).asked in
-    let among : contains part_cmp (map (λ (y : Fetched). y.part) (fetches_for m.pattern all)) x.part ≡ true =
-    subst (λ (ts : List Part). contains part_cmp ts x.part ≡ true)
-    (parts_came kept ∙ ap (map (λ (y : Fetched). y.part)) (returns-clause-kept g c))
-    (contains_in exact_parts (map (λ (y : Tried). y.part) kept) x.part
-    (in_map (λ (y : Tried). y.part) kept x (in_at kept k d low))) in
-    true≢false
-    (sym h
-    ∙ ap (λ (ps : List Pair). contains pair_cmp ps (pair_of x.part)) (returns-clause-passed g c)
-    ∙ kept_apart m.pattern all
-    (outcome_differs m c.args.jobs.now c.args.parts.now c.args.attempts.now c.requires.outcome.each
-    c.requires.outcome.apart) x.part zero among))
+    record {
+      unknown = c.loop-job.invariant.unknown;
+      others = λ k d low.
+          let x : Tried = slice_index_or kept k d in
+          false_from_ne_true (contains pair_cmp c.loop-job.passed.items (pair_of x.part)) (λ h.
+          let zero = (c.loop-job.invariant.unknown (pair_of x.part) h).record_alone x.part refl
+          (c.loop-job.invariant.can k d low).asked in
+          let among : contains part_cmp (map (λ (y : Fetched). y.part) (fetches_for m.pattern all)) x.part ≡ true =
+          subst (λ (ts : List Part). contains part_cmp ts x.part ≡ true)
+          (parts_came kept ∙ ap (map (λ (y : Fetched). y.part)) (returns-clause-kept g c))
+          (contains_in exact_parts (map (λ (y : Tried). y.part) kept) x.part
+          (in_map (λ (y : Tried). y.part) kept x (in_at kept k d low))) in
+          true≢false
+          (sym h
+          ∙ ap (λ (ps : List Pair). contains pair_cmp ps (pair_of x.part)) (returns-clause-passed g c)
+          ∙ kept_apart m.pattern all
+          (outcome_differs m c.args.jobs.now c.args.parts.now c.args.attempts.now c.requires.outcome.each
+          c.requires.outcome.apart) x.part zero among));
+    }

@@ -9,7 +9,7 @@ use Rattle.repo_mirror.proofs.mirror.outcome.take_sorted.Goals as goal
 pub hide_all-requires-clause-objects : goal.hide_all-requires-clause-objects
 hide_all-requires-clause-objects c = λ k d low.
     ap (λ (h : HoldingsState). is_withdrawal h.store (slice_index_or c.args.passed.now k d)) c.in_ok-reserve.ensures.ok
-    ∙ none_withdrawn c.args.passed.now c.args.held.now c.requires.unknown k d low
+    ∙ none_withdrawn c.args.passed.now c.args.held.now c.requires.apart.unknown k d low
 
 pub take-requires-clause-takable : goal.take-requires-clause-takable
 take-requires-clause-takable c =
@@ -17,9 +17,9 @@ take-requires-clause-takable c =
     subst (λ (h : HoldingsState). AreTakable (held_plan h) h.store c.args.kept.items)
     (sym (c.in_ok-hide_all.ensures.ok
     ∙ ap (hides_all c.args.passed.now) c.in_ok-reserve.ensures.ok
-    ∙ hides_only c.args.passed.now c.args.held.now n c.requires.unknown))
-    (still_takable c.args.passed.now c.args.held.now n c.requires.unknown c.args.kept.items c.requires.others
-    c.requires.kept)
+    ∙ hides_only c.args.passed.now c.args.held.now n c.requires.apart.unknown))
+    (still_takable c.args.passed.now c.args.held.now n c.requires.apart.unknown c.args.kept.items
+    c.requires.apart.others c.requires.kept)
 
 pub returns-clause-ok : goal.returns-clause-ok
 returns-clause-ok c =
@@ -27,7 +27,7 @@ returns-clause-ok c =
     ∙ ap (after_outcome (map came c.args.kept.items))
     (c.in_ok-hide_all.ensures.ok
     ∙ ap (hides_all c.args.passed.now) c.in_ok-reserve.ensures.ok
-    ∙ hides_only c.args.passed.now c.args.held.now (max c.args.held.now.spare c.len.result) c.requires.unknown
+    ∙ hides_only c.args.passed.now c.args.held.now (max c.args.held.now.spare c.len.result) c.requires.apart.unknown
     ∙ ap (λ (n : ℕ). record c.args.held.now {
       hidden = with_hidden c.args.passed.now c.args.held.now.hidden;
       spare = max c.args.held.now.spare n;
