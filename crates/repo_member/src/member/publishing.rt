@@ -9,7 +9,7 @@ ghost use Rattle.repo_member.specs.MemberState.{IsOfGroup, publication_limit, ne
 ghost use Rattle.repo_member.specs.Posts.{post_of, IsNew};
 ghost use Rattle.repo_member.specs.Verdicts.{sync_of};
 ghost use Rattle.repo_holdings.specs.NewPublications.{ArePackets};
-ghost use Rattle.repo_member.specs.Publishing.{IsPrepared, publishes_packets};
+ghost use Rattle.repo_member.specs.Publishing.{IsPrepared, CanDraw, ArePublished, IsPublished};
 
 use super::Member;
 use super::syncing::sync_of;
@@ -135,13 +135,8 @@ impl Member {
         requires group { IsOfGroup g.now self.old }
         requires numbers { length self.old.log < publication_limit }
         requires new { IsNew (next_seq self.old) post }
-        requires early { now < 2 ^ 62 }
-        requires draws { self.old.machine.draws < 2 ^ 62 }
-        ensures ok { OnOk result (self.new ≡ member_publishes g.now (post_of post) now draw self.old) }
-        ensures post { OnOk result (IsPost (next_seq self.old) (post_of post)) }
-        ensures seq { IfOk result (λ published. published.seq ≡ next_seq self.old) }
-        ensures sync { IfOk result (λ published.
-            published.sync.items ≡ sync_of g.now self.old.number self.new.known) }
+        requires draws { CanDraw now self.old }
+        ensures published { IfOk result (IsPublished g.now self.old (post_of post) now draw self.new) }
         ensures back { IfErr result (λ back. back ≡ post) }
         ensures err { OnErr result (self.new ≡ self.old) }
     {
@@ -163,12 +158,9 @@ impl Member {
         requires new { IsNew (next_seq self.old) post }
         requires post { IsPost (next_seq self.old) (post_of post) }
         requires parts { ArePackets prepared.summary prepared.packets.items }
-        requires early { now < 2 ^ 62 }
-        requires draws { self.old.machine.draws < 2 ^ 62 }
-        ensures ok { OnOk result
-            (self.new ≡ publishes_packets (post_of post) prepared.packets.items now draw self.old) }
-        ensures seq { IfOk result (λ published. published.seq ≡ next_seq self.old) }
-        ensures sync { IfOk result (λ published. published.sync ≡ prepared.sync) }
+        requires draws { CanDraw now self.old }
+        ensures published { IfOk result
+            (ArePublished self.old (post_of post) prepared.packets.items prepared.sync now draw self.new) }
         ensures back { IfErr result (λ back. back ≡ post) }
         ensures err { OnErr result (self.new ≡ self.old) }
     {

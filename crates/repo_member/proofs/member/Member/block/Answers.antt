@@ -298,7 +298,7 @@ returns-in-Ok-publish_post-clause-ok c =
     ∙ handed c.self.inside.processes c.block.new.self c.args.process c.args.index c.args.content.now last.0 last.1
     c.completes-is_last.ensures.ordered)
     ∙ ap (member_keeps c.args.process (closed last.0)) c.self.view_is in
-    c.in-Ok-publish_post.ensures.ok
+    c.in-Ok-publish_post.ensures.published.new
     ∙ ap (λ (o : NamedContents). member_publishes c.args.g.now (Offers o) c.args.now c.args.draw
     (member_state (record c.self.inside { processes = c.hand_over.new.self }))) (object_is c last.0 last.1)
     ∙ ap (member_publishes c.args.g.now (Offers (object_of last.0)) c.args.now c.args.draw) keeps
@@ -317,4 +317,4 @@ returns-in-Ok-publish_post-clause-object c =
     ap (λ (b : MemberState). member_block b c.args.process c.args.index c.args.content.now) (sym c.self.view_is)
     ∙ last.1.state in
     subst CompletesAnObject (sym state)
-    (subst IsObject (object_is c last.0 last.1) c.in-Ok-publish_post.ensures.post)
+    (subst IsObject (object_is c last.0 last.1) c.in-Ok-publish_post.ensures.published.post)
