@@ -1,6 +1,6 @@
 -- What a member makes of a command, and what it answers.
 use Rattle.std.specs.Prelude.{◌≡◌, ℕ, ◌<◌, ◌≤◌, true, false, List, Option, Some, None, Result, Ok, Err, length, nat_le}
-use Rattle.std.specs.Prelude.{◌==◌, if◌then◌else◌}
+use Rattle.std.specs.Prelude.{◌==◌, IfOk, option_map, if◌then◌else◌}
 use Rattle.std.specs.Ordering.{nat_cmp}
 use Rattle.ndn_name.specs.declared.fault.PacketFault.{PacketFault}
 use Rattle.ndn_name.specs.Names.{Component, encoding}
@@ -20,6 +20,7 @@ use Rattle.repo_command.specs.Verdict.{command_verdict}
 use Rattle.repo_command.specs.Answers.{code_only, written_answer}
 use Rattle.repo_process.specs.Insertions.{next_number, starts}
 use Rattle.group_model.specs.Steps.{check_answer}
+use Rattle.repo_member.specs.declared.member.command.Answered.{Answered}
 use Rattle.repo_member.specs.Groups.{GroupKeys, IsGroup, node_at, member_key, client_at, client_key_at}
 use Rattle.repo_member.specs.MemberState.{MemberState}
 use Rattle.repo_member.specs.Deleting.{catalogued_named, member_deletes, member_drops}
@@ -117,3 +118,9 @@ reply_to_interest g number answer (Err fault) = None
 -- The Data packet that replies to octets, if they are an Interest whose name isn't too long.
 abbrev pub reply_to_octets : GroupKeys → ℕ → Answer → List ℕ → Option (List ℕ)
 reply_to_octets g number answer octets = reply_to_interest g number answer (interest_of octets)
+
+-- What a member answers to octets, and the packet that says it. A command that they are is as it is spelled.
+pub record IsAnswerTo (g : GroupKeys) (octets : List ℕ) (a : MemberState) (answered : Answered) : Type 0 where
+  pub spelled : IfOk (order_of g a.number octets) (λ order. CommandIsSpelled order.1)
+  pub answer : answered.answer ≡ member_order_answer (order_of g a.number octets) a
+  pub reply : option_map (λ r. r.items) answered.reply ≡ reply_to_octets g a.number answered.answer octets

@@ -11,7 +11,7 @@ ghost use Rattle.group_model.specs.Steps.{check_answer};
 ghost use Rattle.repo_holdings.specs.Listed.{is_withdrawal};
 ghost use Rattle.repo_member.specs.MemberState.{IsOfGroup, member_plan};
 ghost use Rattle.repo_member.specs.Deleting.{catalogued_named, member_deletes, member_drops};
-ghost use Rattle.repo_member.specs.Commanded.{coded, order_of, member_after_order, member_order_answer, member_obeys};
+ghost use Rattle.repo_member.specs.Commanded.{coded, order_of, member_after_order, member_obeys, IsAnswerTo};
 ghost use Rattle.repo_member.specs.Commanded.{member_state_starts, answer_to, start_answer, delete_answer};
 ghost use Rattle.repo_member.specs.Commanded.{reply_to_octets};
 ghost use Rattle.repo_member.specs.Commanded.{reply_named};
@@ -52,14 +52,9 @@ impl Member {
     /// signed for this member.
     pub fn command(&mut self, g: &Group, octets: &[u8]) -> Result<Answered, AllocError>
         requires group { IsOfGroup g.now self.old }
-        ensures answer { IfOk result (λ answered. answered.answer
-            ≡ member_order_answer (order_of g.now self.old.number octets.now) self.old) }
-        ensures reply { IfOk result (λ answered. option_map (λ r. r.items) answered.reply
-            ≡ reply_to_octets g.now self.old.number answered.answer octets.now) }
+        ensures answer { IfOk result (IsAnswerTo g.now octets.now self.old) }
         ensures ok { OnOk result
             (self.new ≡ member_after_order (order_of g.now self.old.number octets.now) self.old) }
-        ensures spelled { OnOk result
-            (IfOk (order_of g.now self.old.number octets.now) (λ order. CommandIsSpelled order.1)) }
         ensures err { OnErr result (self.new ≡ self.old) }
     {
         let alloc = *self.log.allocator();
@@ -80,14 +75,9 @@ impl Member {
         requires group { IsOfGroup g.now self.old }
         requires verdict { coded verdict ≡ order_of g.now self.old.number octets.now }
         requires spelled { IfOk verdict (λ order. CommandIsSpelled order.1) }
-        ensures answer { IfOk result (λ answered. answered.answer
-            ≡ member_order_answer (order_of g.now self.old.number octets.now) self.old) }
-        ensures reply { IfOk result (λ answered. option_map (λ r. r.items) answered.reply
-            ≡ reply_to_octets g.now self.old.number answered.answer octets.now) }
+        ensures answer { IfOk result (IsAnswerTo g.now octets.now self.old) }
         ensures ok { OnOk result
             (self.new ≡ member_after_order (order_of g.now self.old.number octets.now) self.old) }
-        ensures spelled { OnOk result
-            (IfOk (order_of g.now self.old.number octets.now) (λ order. CommandIsSpelled order.1)) }
         ensures err { OnErr result (self.new ≡ self.old) }
     {
         match verdict {

@@ -79,7 +79,7 @@ returns-clause-answer c =
     taken_is s c.self.invariant.consistent c.args.m there old c.index_mut-member.ensures.value c.args.client
     c.args.command known
     c.requires.spelled c.requires.command c.deref.result.now (c.deref.ensures.value ∙ c.in_ok-octets.ensures) in
-    c.in_ok-answered.ensures.answer
+    c.in_ok-answered.ensures.answer.answer
     ∙ ap (λ r. commanded.member_order_answer r old) taken
     ∙ issue_answered s c.self.invariant.consistent c.args.m there old c.index_mut-member.ensures.value c.args.client
     c.args.command

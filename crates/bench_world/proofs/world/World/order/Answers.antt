@@ -74,7 +74,7 @@ returns c =
       report =
           c.ordered.ensures
           ∙ ap (order_report c.args.m)
-          (c.in_ok-answered.ensures.answer
+          (c.in_ok-answered.ensures.answer.answer
           ∙ ap (λ (k : ℕ). commanded.member_order_answer (commanded.order_of s.keys k c.args.octets.now) old) number
           ∙ order_answered s c.self.invariant.consistent c.args.m there old c.index_mut-member.ensures.value
           (commanded.order_of s.keys c.args.m c.args.octets.now))
