@@ -1,7 +1,9 @@
 -- What a member answers to a sync Interest and to a packet that it asked for, but when memory runs out.
-use Rattle.std.specs.Prelude.{ℕ, List, Option, Some, None, Result, Ok, Err, length, slice_index, nat_lt, if◌then◌else◌}
+use Rattle.std.specs.Prelude.{◌≡◌, ◌≢◌, ◌⊎◌, ℕ, List, Option, Some, None, Result, Ok, Err, IsOk, length, slice_index}
+use Rattle.std.specs.Prelude.{nat_lt, if◌then◌else◌}
 use Rattle.ndn_data.specs.Data.{Data}
 use Rattle.svs_sync.specs.declared.sync_refusal.SyncRefusal.{SyncRefusal}
+use Rattle.svs_sync.specs.declared.sync_refusal.SyncRefusal.TheVariants as sync_refusal
 use Rattle.svs_sync.specs.SyncInterest.{sync_interest, sync_verdict}
 use Rattle.repo_plan.specs.declared.part.Part.{Part}
 use Rattle.repo_plan.specs.Plan.{claim_of}
@@ -9,7 +11,7 @@ use Rattle.repo_object.specs.declared.part_refusal.PartRefusal.{PartRefusal}
 use Rattle.repo_object.specs.Objects.{key_name}
 use Rattle.repo_object.specs.Verdict.{ring_verdict}
 use Rattle.repo_member.specs.declared.refusals.HearRefusal.{HearRefusal}
-use Rattle.repo_member.specs.declared.refusals.HearRefusal.TheVariants.{Sync, OwnNumberAhead}
+use Rattle.repo_member.specs.declared.refusals.HearRefusal.TheVariants.{Sync, OwnNumberAhead, NoMemory}
 use Rattle.repo_member.specs.declared.refusals.AcceptRefusal.{AcceptRefusal}
 use Rattle.repo_member.specs.declared.refusals.AcceptRefusal.TheVariants.{FetcherIdle, Refused}
 use Rattle.repo_member.specs.Groups.{GroupKeys, node_at, member_key}
@@ -39,6 +41,13 @@ group_verdict g octets = sync_verdict g.name g.members.names g.members.ring octe
 -- the vector that octets tell the member, or why they are refused
 abbrev pub hear_verdict : GroupKeys → MemberState → List ℕ → Result (List ℕ) HearRefusal
 hear_verdict g a octets = received_verdict a (group_verdict g octets)
+
+-- Octets are refused so: by that verdict, or because memory ran out for a vector that passed. This never stands for a
+-- refusal of the sync Interest.
+pub record IsHearRefusal (verdict : Result (List ℕ) HearRefusal) (refusal : HearRefusal) : Type 0 where
+  pub refused : (refusal ≡ NoMemory) ⊎ (verdict ≡ Err refusal)
+  pub memory : refusal ≡ NoMemory → IsOk verdict
+  pub sync : refusal ≢ Sync sync_refusal.NoMemory
 
 -- a part, where a packet passes for it
 abbrev pub passed : Part → Result Data PartRefusal → Result Part AcceptRefusal

@@ -1,8 +1,9 @@
-ghost use Rattle.std.specs.Prelude.{◌≡◌, ◌<◌, ◌≤◌, ◌^◌, ◌↔◌, ℕ, Err, IfOk, OnOk, OnErr, IsTrue, length};
+ghost use Rattle.std.specs.Prelude.{◌≡◌, ◌≤◌, ◌↔◌, ℕ, Err, IfOk, OnOk, OnErr, IsTrue, length};
 ghost use Rattle.repo_object.specs.Objects.{IsContent};
 ghost use Rattle.repo_process.specs.Arrivals.{is_last};
 ghost use Rattle.repo_member.specs.MemberState.{IsOfGroup, publication_limit};
 ghost use Rattle.repo_member.specs.Blocks.{member_block, member_blocks, CompletesAnObject, IsBlockAnswer};
+ghost use Rattle.repo_member.specs.Publishing.{CanDraw};
 
 use super::Member;
 use super::publishing::{PUBLICATION_LIMIT, Published};
@@ -39,8 +40,7 @@ impl Member {
     ) -> Result<Blocked, PublishRefusal>
         requires group { IsOfGroup g.now self.old }
         requires content { IsContent content.now }
-        requires early { now < 2 ^ 62 }
-        requires draws { self.old.machine.draws < 2 ^ 62 }
+        requires draws { CanDraw now self.old }
         ensures answer { IfOk result (IsBlockAnswer g.now self.old self.new
             (member_block self.old process index content.now)) }
         ensures ok { OnOk result

@@ -1,11 +1,11 @@
-ghost use Rattle.std.specs.Prelude.{◌≡◌, ◌<◌, ◌≤◌, ◌^◌, ◌⊎◌, ◌↔◌, Ok, Err, IsFalse, IfOk, IfErr, IsOkAnd, OnOk, OnErr};
-ghost use Rattle.std.specs.Prelude.{◌≢◌, length, slice_index, IsOk};
+ghost use Rattle.std.specs.Prelude.{◌≡◌, ◌<◌, ◌≤◌, ◌^◌, ◌↔◌, Ok, IsFalse, IfOk, IfErr, IsOkAnd, OnOk, OnErr};
+ghost use Rattle.std.specs.Prelude.{length, slice_index};
 ghost use Rattle.svs_vector.specs.Vectors.{join};
 ghost use Rattle.svs_sync.specs.Suppression.{mode_of};
 ghost use Rattle.svs_sync.specs.SyncStates.{fires_joined};
 ghost use Rattle.repo_member.specs.Groups.{node_limit};
 ghost use Rattle.repo_member.specs.MemberState.{IsOfGroup, member_learns, member_hears, member_fires};
-ghost use Rattle.repo_member.specs.Verdicts.{sync_of, hear_verdict};
+ghost use Rattle.repo_member.specs.Verdicts.{sync_of, hear_verdict, IsHearRefusal};
 ghost use Rattle.repo_member.specs.Fires.{IsFireAnswer};
 
 use super::Member;
@@ -14,7 +14,7 @@ use crate::refusals::HearRefusal;
 use repo_holdings::Holdings;
 use repo_object::key_name;
 use std::alloc::{AllocError, Global};
-use svs_sync::{Fired, Mode, SyncRefusal, make_sync};
+use svs_sync::{Fired, Mode, make_sync};
 use svs_vector::Vector;
 
 /// What a member does when its timer fires.
@@ -44,10 +44,7 @@ impl Member {
         ensures ok { OnOk result (IsOkAnd (hear_verdict g.now self.old octets.now)
             (λ received. self.new ≡ member_hears received now draw self.old)) }
         ensures mode { IfOk result (λ mode. mode ≡ mode_of self.new.machine.heard) }
-        ensures refused { IfErr result (λ refusal. (refusal ≡ HearRefusal.NoMemory)
-            ⊎ (hear_verdict g.now self.old octets.now ≡ Err refusal)) }
-        ensures memory { result ≡ Err HearRefusal.NoMemory → IsOk (hear_verdict g.now self.old octets.now) }
-        ensures sync { result ≢ Err (HearRefusal.Sync SyncRefusal.NoMemory) }
+        ensures refused { IfErr result (IsHearRefusal (hear_verdict g.now self.old octets.now)) }
         ensures err { OnErr result (self.new ≡ self.old) }
     {
         let received = self.received(g, octets)?;
@@ -78,10 +75,7 @@ impl Member {
         ensures ok { OnOk result (IsOkAnd (hear_verdict g.now self.old octets.now)
             (λ received. self.new ≡ member_learns received self.old)) }
         ensures changed { IfOk result (λ changed. IsFalse changed ↔ (self.new.known ≡ self.old.known)) }
-        ensures refused { IfErr result (λ refusal. (refusal ≡ HearRefusal.NoMemory)
-            ⊎ (hear_verdict g.now self.old octets.now ≡ Err refusal)) }
-        ensures memory { result ≡ Err HearRefusal.NoMemory → IsOk (hear_verdict g.now self.old octets.now) }
-        ensures sync { result ≢ Err (HearRefusal.Sync SyncRefusal.NoMemory) }
+        ensures refused { IfErr result (IsHearRefusal (hear_verdict g.now self.old octets.now)) }
         ensures err { OnErr result (self.new ≡ self.old) }
     {
         let received = self.received(g, octets)?;
@@ -135,10 +129,7 @@ impl Member {
         ensures own { IfOk result (λ received. slice_index received self.now.number ≤ length self.now.log) }
         ensures width { IfOk result (λ received. length received ≡ length self.now.known) }
         ensures members { IfOk result (λ received. length received ≤ node_limit) }
-        ensures refused { IfErr result (λ refusal. (refusal ≡ HearRefusal.NoMemory)
-            ⊎ (hear_verdict g.now self.now octets.now ≡ Err refusal)) }
-        ensures memory { result ≡ Err HearRefusal.NoMemory → IsOk (hear_verdict g.now self.now octets.now) }
-        ensures sync { result ≢ Err (HearRefusal.Sync SyncRefusal.NoMemory) }
+        ensures refused { IfErr result (IsHearRefusal (hear_verdict g.now self.now octets.now)) }
     {
         let received = match g.check_numbers(octets) {
             Ok((_, received)) => received,

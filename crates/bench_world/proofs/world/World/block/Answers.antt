@@ -15,7 +15,7 @@ use Rattle.bench_world.specs.Steps.{IsFaultOf}
 use Rattle.bench_world.specs.Touching.{blocked_pair}
 use Rattle.bench_world.specs.Worlds.{GroupState, world_of, drawing}
 use Rattle.bench_world.proofs.BlockEvents.{block_refused, finds_number, block_taken, reported_so, after_so, noted_so}
-use Rattle.bench_world.proofs.States.{few_draws}
+use Rattle.bench_world.proofs.States.{early, few_draws}
 use Rattle.bench_world.proofs.NobodyLacking.{blocked_lacks}
 use Rattle.bench_world.proofs.world.World.block.Goals as goal
 
@@ -23,8 +23,12 @@ pub block-requires-clause-draws : goal.block-requires-clause-draws
 block-requires-clause-draws g c =
     let s = world_state c.self.inside in
     let there = subst (λ (x : GroupState). c.args.m < length x.members) (sym c.self.view_is) c.requires.there in
-    few_draws s c.self.invariant.consistent c.args.m there c.index_mut-member.result.now
-    c.index_mut-member.ensures.value
+    record {
+      early = early s c.self.invariant.consistent;
+      few =
+          few_draws s c.self.invariant.consistent c.args.m there c.index_mut-member.result.now
+          c.index_mut-member.ensures.value;
+    }
 
 pub returns-in-Err-NumbersSpent : goal.returns-in-Err-NumbersSpent
 returns-in-Err-NumbersSpent g c =
