@@ -1,10 +1,10 @@
 -- What a publication makes of a world.
 use Rattle.std.proofs.Common.{◌≡◌, ◌⊎◌, inl, inr, ℕ, ◌+◌, ◌≤◌, ◌<◌, Bool, true, false, cond, not, Option, Some, None}
-use Rattle.std.proofs.Common.{◌&&◌, Result, Ok, Err, List}
+use Rattle.std.proofs.Common.{Result, Err, List}
 use Rattle.std.proofs.Common.{[], ◌∷◌, ◌++◌, map, length, get_or, set, refl, sym, ap, ◌∙◌, subst, arith}
 use Rattle.std.specs.Prelude.{nat_le, ◌↔◌}
 use Rattle.std.specs.List.{All}
-use Rattle.std.proofs.lemmas.Bool.{false_from_ne_true, cases_Bool, cases_eq, leb-true, leb-false, le-leb, and_parts}
+use Rattle.std.proofs.lemmas.Bool.{false_from_ne_true, cases_eq, leb-true, le-leb}
 use Rattle.std.proofs.lemmas.List.{length-append, length-set, map-set, map-append, get_or-set_same, get_or-set_other}
 use Rattle.std.proofs.lemmas.List.Elements.{All-append}
 use Rattle.bench_net.specs.SentList.{SentPacket, sent_packet}
@@ -93,17 +93,6 @@ module _ (s : GroupState) (is : IsConsistentState s) (m : ℕ) (there : m < leng
   refused_so draw object r NoMemory is_err spent = inl refl
   refused_so draw object r (NumbersSpent log) is_err spent = inr (spent_so ((spent log).0 is_err).1)
 
-  pub has_room : {A : Type 0} (r : Result A PublishRefusal) (x : A) → r ≡ Ok x
-      → ((log : ℕ) → (r ≡ Err (NumbersSpent log)) ↔ ((log ≡ length old.log) × (65535 ≤ length old.log)))
-      → length old.log < 65535
-  has_room r x is_ok spent = elim (cases_Bool (nat_le 65535 (length old.log))) [
-    | inl most ↦
-        absurd (let e : r ≡ Err (NumbersSpent (length old.log)) =
-        (spent (length old.log)).1 (refl, leb-true 65535 (length old.log) most) in
-        cc)
-    | inr less ↦ leb-false 65535 (length old.log) less
-  ]
-
   -- ---- a withdrawal
 
   module _ (seq : ℕ) where
@@ -141,26 +130,6 @@ module _ (s : GroupState) (is : IsConsistentState s) (m : ℕ) (there : m < leng
     withdraw_refused draw r (withdrawing.NumbersSpent log) is_err none spent =
         subst (λ (o : Option Refusal). IsFaultOf o fault.NumbersSpent)
         (sym (by_object true ((spent log).0 is_err).0 draw ∙ spent_so ((spent log).0 is_err).2)) refl
-
-    -- One that is taken finds a number.
-    pub withdraw_room : {A : Type 0} (r : Result A WithdrawRefusal) (x : A) → r ≡ Ok x
-        → has_unwithdrawn old.log seq ≡ true → IsSpent r → length old.log < 65535
-    withdraw_room r x is_ok object spent = elim (cases_Bool (nat_le 65535 (length old.log))) [
-      | inl most ↦
-          absurd (let e : r ≡ Err (withdrawing.NumbersSpent (length old.log)) =
-          (spent (length old.log)).1 (object, refl, leb-true 65535 (length old.log) most) in
-          cc)
-      | inr less ↦ leb-false 65535 (length old.log) less
-    ]
-
-    -- What is withdrawn was published before.
-    pub withdraw_post : has_unwithdrawn old.log seq ≡ true → IsPost (next_seq old) (Withdraws seq)
-    withdraw_post object =
-        let places = (and_parts (nat_le 1 seq && nat_le seq (length old.log)) _ object).0 in
-        let both = and_parts (nat_le 1 seq) (nat_le seq (length old.log)) places in
-        let low : 1 ≤ seq = leb-true 1 seq both.0 in
-        let high : seq ≤ length old.log = leb-true seq (length old.log) both.1 in
-        (omega (arith, low), omega (arith, high))
 
   -- ---- what is published
 

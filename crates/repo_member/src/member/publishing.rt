@@ -1,11 +1,11 @@
-ghost use Rattle.std.specs.Prelude.{◌≡◌, ◌<◌, ◌≤◌, ◌^◌, ◌↔◌, ℕ, true, false, Err, IfOk, IfErr, IsTrue, length, map};
+ghost use Rattle.std.specs.Prelude.{◌≡◌, ◌<◌, ◌≤◌, ◌↔◌, ℕ, true, false, Err, IfOk, IfErr, IsTrue, length, map};
 ghost use Rattle.std.specs.Prelude.{OnOk, OnErr, option_map, slice_set};
 ghost use Rattle.std.specs.List.{All};
 ghost use Rattle.repo_object.specs.Limits.{segment_limit};
 ghost use Rattle.repo_object.specs.Objects.{is_object_name, IsContent, IsObject, IsPost};
 ghost use Rattle.repo_object.specs.Objects.Post.{Offers, Withdraws};
 ghost use Rattle.group_model.specs.Publications.{has_unwithdrawn};
-ghost use Rattle.repo_member.specs.MemberState.{IsOfGroup, publication_limit, next_seq, member_publishes, logged};
+ghost use Rattle.repo_member.specs.MemberState.{IsOfGroup, publication_limit, next_seq, logged};
 ghost use Rattle.repo_member.specs.Posts.{post_of, IsNew};
 ghost use Rattle.repo_member.specs.Verdicts.{sync_of};
 ghost use Rattle.repo_holdings.specs.NewPublications.{ArePackets};
@@ -56,15 +56,9 @@ impl Member {
         requires name { IsTrue (is_object_name name.now) }
         requires few { length contents.now ≤ segment_limit }
         requires contents { All (λ c. IsContent c.items) contents.now }
-        requires early { now < 2 ^ 62 }
-        requires draws { self.old.machine.draws < 2 ^ 62 }
-        ensures ok { OnOk result (self.new ≡ member_publishes g.now
-            (Offers (record { name = name.now; contents = map (λ c. c.items) contents.now })) now draw self.old) }
-        ensures object { OnOk result (IsObject
-            (record { name = name.now; contents = map (λ c. c.items) contents.now })) }
-        ensures seq { IfOk result (λ published. published.seq ≡ next_seq self.old) }
-        ensures sync { IfOk result (λ published.
-            published.sync.items ≡ sync_of g.now self.old.number self.new.known) }
+        requires draws { CanDraw now self.old }
+        ensures published { IfOk result (IsPublished g.now self.old
+            (Offers (record { name = name.now; contents = map (λ c. c.items) contents.now })) now draw self.new) }
         ensures spent { (log : ℕ) → (result ≡ Err (PublishRefusal.NumbersSpent log))
             ↔ ((log ≡ length self.old.log) × (publication_limit ≤ length self.old.log)) }
         ensures err { OnErr result (self.new ≡ self.old) }
@@ -97,13 +91,9 @@ impl Member {
         draw: u32,
     ) -> Result<Published, WithdrawRefusal>
         requires group { IsOfGroup g.now self.old }
-        requires early { now < 2 ^ 62 }
-        requires draws { self.old.machine.draws < 2 ^ 62 }
-        ensures ok { OnOk result (self.new ≡ member_publishes g.now (Withdraws seq) now draw self.old) }
+        requires draws { CanDraw now self.old }
+        ensures published { IfOk result (IsPublished g.now self.old (Withdraws seq) now draw self.new) }
         ensures object { OnOk result (has_unwithdrawn self.old.log seq ≡ true) }
-        ensures seq { IfOk result (λ published. published.seq ≡ next_seq self.old) }
-        ensures sync { IfOk result (λ published.
-            published.sync.items ≡ sync_of g.now self.old.number self.new.known) }
         ensures no_object { (number : ℕ) → (result ≡ Err (WithdrawRefusal.NoSuchNumber number))
             ↔ ((number ≡ seq) × (has_unwithdrawn self.old.log seq ≡ false)) }
         ensures spent { (log : ℕ) → (result ≡ Err (WithdrawRefusal.NumbersSpent log))

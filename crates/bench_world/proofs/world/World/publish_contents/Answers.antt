@@ -1,4 +1,4 @@
-use Rattle.std.proofs.Common.{List, ◌≡◌, ◌⊎◌, ◌<◌, Some, None, Ok, Err, map, length, set, refl, sym, ap, ◌∙◌, subst}
+use Rattle.std.proofs.Common.{List, ◌≡◌, ◌⊎◌, ◌<◌, Some, None, Err, map, length, set, refl, sym, ap, ◌∙◌, subst}
 use Rattle.std.proofs.Common.{arith}
 use Rattle.std.proofs.lemmas.Grind.{common_steps}
 use Rattle.std.proofs.lemmas.Result.{err_from_is_err_and}
@@ -13,8 +13,8 @@ use Rattle.group_model.specs.Steps.{after_publish, next_seq_at}
 use Rattle.bench_world.specs.Worlds.{GroupState, IsConsistentState, in_groups, world_of, drawing}
 use Rattle.bench_world.specs.Kept.{world_state}
 use Rattle.bench_world.specs.Unsettled.{NobodyLacks}
-use Rattle.bench_world.proofs.States.{few_draws}
-use Rattle.bench_world.proofs.Objects.{refused_so, has_room, seq_is, sent_is, not_spent, world_sent, state_sent}
+use Rattle.bench_world.proofs.States.{early, few_draws}
+use Rattle.bench_world.proofs.Objects.{refused_so, seq_is, sent_is, not_spent, world_sent, state_sent}
 use Rattle.bench_world.proofs.NobodyLacking.{all_unchanged, published_lacks}
 use Rattle.bench_world.proofs.world.World.publish_contents.Goals as goal
 
@@ -22,8 +22,12 @@ pub publish-requires-clause-draws : goal.publish-requires-clause-draws
 publish-requires-clause-draws g c =
     let s = world_state c.self.inside in
     let there = subst (λ (x : GroupState). c.args.m < length x.members) (sym c.self.view_is) c.requires.there in
-    few_draws s c.self.invariant.consistent c.args.m there c.index_mut-member.result.now
-    c.index_mut-member.ensures.value
+    record {
+      early = early s c.self.invariant.consistent;
+      few =
+          few_draws s c.self.invariant.consistent c.args.m there c.index_mut-member.result.now
+          c.index_mut-member.ensures.value;
+    }
 
 pub returns-in_err-published-clause-refused : goal.returns-in_err-published-clause-refused
 returns-in_err-published-clause-refused g c =
@@ -53,35 +57,31 @@ invariant_of-self-2 g c =
     let old = c.index_mut-member.result.now in
     let object : NamedContents = record { name = c.args.name.now; contents = map (λ x. x.items) c.args.contents.now } in
     let n_is = c.draw-draw.ensures ∙ ap (g.D.Draws.draw c.args.draws.now c.args.m) c.next_draw.ensures in
-    let room =
-    has_room s c.self.invariant.consistent c.args.m there old c.index_mut-member.ensures.value
-    (Ok c.in_ok-published.published)
-    c.in_ok-published.published refl c.in_ok-published.ensures.spent in
+    let is = c.in_ok-published.ensures.published in
     let sent =
     sent_is s c.self.invariant.consistent c.args.m there old c.index_mut-member.ensures.value c.publish.new.self
-    (g.D.Draws.draw c.args.draws.now) c.draw-draw.result n_is (Offers object) c.in_ok-published.ensures.ok
+    (g.D.Draws.draw c.args.draws.now) c.draw-draw.result n_is (Offers object) is.new
     c.add_reserved-k.new.self.packets c.reserve.new.self.packets c.in_ok-vector.vector.items
     c.in_ok-published.published.seq
     c.in_ok-published.published.sync.items (ap (λ x. x.packets) c.in_ok-reserve.ensures.ok)
     (c.in_ok-vector.ensures ∙ c.vector.ensures.known)
-    c.in_ok-published.ensures.seq c.in_ok-published.ensures.sync c.add_reserved-k.ensures.sent in
+    is.seq is.sync c.add_reserved-k.ensures.sent in
     record {
       consistent =
           state_sent s c.self.invariant.consistent c.args.m there old c.index_mut-member.ensures.value
           c.publish.new.self
-          (g.D.Draws.draw c.args.draws.now) c.draw-draw.result n_is (Offers object) c.in_ok-published.ensures.ok few
-          c.in_ok-published.ensures.object room
+          (g.D.Draws.draw c.args.draws.now) c.draw-draw.result n_is (Offers object) is.new few is.post is.room
           c.add_reserved-k.new.self.packets sent;
       nobody_lacks =
           published_lacks s c.args.m there c.self.inside.unsettled c.self.invariant.nobody_lacks
           (set s.members c.args.m c.publish.new.self) c.note.new.self c.in_ok-published.published.seq c.note.ensures
           (drawing (g.D.Draws.draw c.args.draws.now)) (Offers object)
           (seq_is s c.self.invariant.consistent c.args.m there old c.index_mut-member.ensures.value
-          c.in_ok-published.published.seq c.in_ok-published.ensures.seq)
+          c.in_ok-published.published.seq is.seq)
           (ap (λ (w : World). w.members)
           (world_sent s c.self.invariant.consistent c.args.m there old c.index_mut-member.ensures.value
           c.publish.new.self
-          (g.D.Draws.draw c.args.draws.now) c.draw-draw.result n_is (Offers object) c.in_ok-published.ensures.ok
+          (g.D.Draws.draw c.args.draws.now) c.draw-draw.result n_is (Offers object) is.new
           c.add_reserved-k.new.self.packets sent));
     }
 
@@ -92,16 +92,17 @@ returns-clause-ok g c =
     let old = c.index_mut-member.result.now in
     let object : NamedContents = record { name = c.args.name.now; contents = map (λ x. x.items) c.args.contents.now } in
     let n_is = c.draw-draw.ensures ∙ ap (g.D.Draws.draw c.args.draws.now c.args.m) c.next_draw.ensures in
+    let is = c.in_ok-published.ensures.published in
     let sent =
     sent_is s c.self.invariant.consistent c.args.m there old c.index_mut-member.ensures.value c.publish.new.self
-    (g.D.Draws.draw c.args.draws.now) c.draw-draw.result n_is (Offers object) c.in_ok-published.ensures.ok
+    (g.D.Draws.draw c.args.draws.now) c.draw-draw.result n_is (Offers object) is.new
     c.add_reserved-k.new.self.packets c.reserve.new.self.packets c.in_ok-vector.vector.items
     c.in_ok-published.published.seq
     c.in_ok-published.published.sync.items (ap (λ x. x.packets) c.in_ok-reserve.ensures.ok)
     (c.in_ok-vector.ensures ∙ c.vector.ensures.known)
-    c.in_ok-published.ensures.seq c.in_ok-published.ensures.sync c.add_reserved-k.ensures.sent in
+    is.seq is.sync c.add_reserved-k.ensures.sent in
     world_sent s c.self.invariant.consistent c.args.m there old c.index_mut-member.ensures.value c.publish.new.self
-    (g.D.Draws.draw c.args.draws.now) c.draw-draw.result n_is (Offers object) c.in_ok-published.ensures.ok
+    (g.D.Draws.draw c.args.draws.now) c.draw-draw.result n_is (Offers object) is.new
     c.add_reserved-k.new.self.packets sent
     ∙ ap (λ (x : GroupState).
     after_publish (drawing (g.D.Draws.draw c.args.draws.now)) (world_of x) c.args.m (Offers object))
@@ -113,10 +114,7 @@ returns-clause-taken g c =
     let there = subst (λ (x : GroupState). c.args.m < length x.members) (sym c.self.view_is) c.requires.there in
     let old = c.index_mut-member.result.now in
     let object : NamedContents = record { name = c.args.name.now; contents = map (λ x. x.items) c.args.contents.now } in
-    let room =
-    has_room s c.self.invariant.consistent c.args.m there old c.index_mut-member.ensures.value
-    (Ok c.in_ok-published.published)
-    c.in_ok-published.published refl c.in_ok-published.ensures.spent in
+    let room = c.in_ok-published.ensures.published.room in
     subst (λ (x : GroupState).
     refusal (drawing (g.D.Draws.draw c.args.draws.now)) (world_of x) (Event.Publish c.args.m object) ≡ None)
     c.self.view_is
@@ -127,7 +125,7 @@ returns-clause-seq g c =
     let s = world_state c.self.inside in
     let there = subst (λ (x : GroupState). c.args.m < length x.members) (sym c.self.view_is) c.requires.there in
     seq_is s c.self.invariant.consistent c.args.m there c.index_mut-member.result.now c.index_mut-member.ensures.value
-    c.in_ok-published.published.seq c.in_ok-published.ensures.seq
+    c.in_ok-published.published.seq c.in_ok-published.ensures.published.seq
     ∙ ap (λ (x : GroupState). next_seq_at (world_of x) c.args.m) c.self.view_is
 
 pub invariant_of-self-in_err-published : goal.invariant_of-self-in_err-published

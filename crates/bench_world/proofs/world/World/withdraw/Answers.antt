@@ -1,4 +1,4 @@
-use Rattle.std.proofs.Common.{List, rules, arith, ◌≡◌, ◌<◌, ◌+◌, None, Ok, Err, length, set, refl, sym, ap, ◌∙◌, subst}
+use Rattle.std.proofs.Common.{List, rules, arith, ◌≡◌, ◌<◌, ◌+◌, None, Err, length, set, refl, sym, ap, ◌∙◌, subst}
 use Rattle.std.proofs.lemmas.Grind.{common_steps}
 use Rattle.std.proofs.lemmas.List.{length-map}
 use Rattle.repo_object.specs.Objects.Post.{Withdraws}
@@ -13,8 +13,8 @@ use Rattle.bench_world.specs.Steps.{IsFaultOf}
 use Rattle.bench_world.specs.Worlds.{GroupState, IsConsistentState, in_groups, sync_in, world_of, drawing}
 use Rattle.bench_world.specs.Kept.{world_state}
 use Rattle.bench_world.specs.Unsettled.{NobodyLacks}
-use Rattle.bench_world.proofs.States.{few_draws}
-use Rattle.bench_world.proofs.Objects.{withdraw_refused, withdraw_taken, withdraw_room, withdraw_post, seq_is, sent_is}
+use Rattle.bench_world.proofs.States.{early, few_draws}
+use Rattle.bench_world.proofs.Objects.{withdraw_refused, withdraw_taken, seq_is, sent_is}
 use Rattle.bench_world.proofs.Objects.{world_sent, state_sent}
 use Rattle.bench_world.proofs.NobodyLacking.{all_unchanged, published_lacks}
 use Rattle.bench_world.proofs.world.World.withdraw.Goals as goal
@@ -23,8 +23,12 @@ pub withdraw-requires-clause-draws : goal.withdraw-requires-clause-draws
 withdraw-requires-clause-draws g c =
     let s = world_state c.self.inside in
     let there = subst (λ (x : GroupState). c.args.m < length x.members) (sym c.self.view_is) c.requires.there in
-    few_draws s c.self.invariant.consistent c.args.m there c.index_mut-member.result.now
-    c.index_mut-member.ensures.value
+    record {
+      early = early s c.self.invariant.consistent;
+      few =
+          few_draws s c.self.invariant.consistent c.args.m there c.index_mut-member.result.now
+          c.index_mut-member.ensures.value;
+    }
 
 pub returns-in-Err : goal.returns-in-Err
 returns-in-Err g c =
@@ -60,36 +64,30 @@ invariant_of-self-2 g c =
     let there = subst (λ (x : GroupState). c.args.m < length x.members) (sym c.self.view_is) c.requires.there in
     let old = c.index_mut-member.result.now in
     let n_is = c.draw-draw.ensures ∙ ap (g.D.Draws.draw c.args.draws.now c.args.m) c.next_draw.ensures in
-    let room =
-    withdraw_room s c.self.invariant.consistent c.args.m there old c.index_mut-member.ensures.value c.args.s
-    (Ok c.in-Ok.published) c.in-Ok.published refl c.in-Ok.ensures.object c.in-Ok.ensures.spent in
-    let post =
-    withdraw_post s c.self.invariant.consistent c.args.m there old c.index_mut-member.ensures.value c.args.s
-    c.in-Ok.ensures.object in
+    let is = c.in-Ok.ensures.published in
     let sent =
     sent_is s c.self.invariant.consistent c.args.m there old c.index_mut-member.ensures.value c.withdraw.new.self
-    (g.D.Draws.draw c.args.draws.now) c.draw-draw.result n_is (Withdraws c.args.s) c.in-Ok.ensures.ok
+    (g.D.Draws.draw c.args.draws.now) c.draw-draw.result n_is (Withdraws c.args.s) is.new
     c.add_reserved-sync.new.self.packets c.reserve.new.self.packets c.in_ok-vector.vector.items c.in-Ok.published.seq
     c.in-Ok.published.sync.items (ap (λ x. x.packets) c.in_ok-reserve.ensures.ok)
     (c.in_ok-vector.ensures ∙ c.vector.ensures.known)
-    c.in-Ok.ensures.seq c.in-Ok.ensures.sync c.add_reserved-sync.ensures.sent in
+    is.seq is.sync c.add_reserved-sync.ensures.sent in
     record {
       consistent =
           state_sent s c.self.invariant.consistent c.args.m there old c.index_mut-member.ensures.value
           c.withdraw.new.self
-          (g.D.Draws.draw c.args.draws.now) c.draw-draw.result n_is (Withdraws c.args.s) c.in-Ok.ensures.ok few post
-          room
+          (g.D.Draws.draw c.args.draws.now) c.draw-draw.result n_is (Withdraws c.args.s) is.new few is.post is.room
           c.add_reserved-sync.new.self.packets sent;
       nobody_lacks =
           published_lacks s c.args.m there c.self.inside.unsettled c.self.invariant.nobody_lacks
           (set s.members c.args.m c.withdraw.new.self) c.note.new.self c.in-Ok.published.seq c.note.ensures
           (drawing (g.D.Draws.draw c.args.draws.now)) (Withdraws c.args.s)
           (seq_is s c.self.invariant.consistent c.args.m there old c.index_mut-member.ensures.value
-          c.in-Ok.published.seq c.in-Ok.ensures.seq)
+          c.in-Ok.published.seq is.seq)
           (ap (λ (w : World). w.members)
           (world_sent s c.self.invariant.consistent c.args.m there old c.index_mut-member.ensures.value
           c.withdraw.new.self
-          (g.D.Draws.draw c.args.draws.now) c.draw-draw.result n_is (Withdraws c.args.s) c.in-Ok.ensures.ok
+          (g.D.Draws.draw c.args.draws.now) c.draw-draw.result n_is (Withdraws c.args.s) is.new
           c.add_reserved-sync.new.self.packets sent));
     }
 
@@ -100,20 +98,18 @@ returns g c =
     let old = c.index_mut-member.result.now in
     let event = Event.Withdraw c.args.m c.args.s in
     let n_is = c.draw-draw.ensures ∙ ap (g.D.Draws.draw c.args.draws.now c.args.m) c.next_draw.ensures in
-    let room =
-    withdraw_room s c.self.invariant.consistent c.args.m there old c.index_mut-member.ensures.value c.args.s
-    (Ok c.in-Ok.published) c.in-Ok.published refl c.in-Ok.ensures.object c.in-Ok.ensures.spent in
+    let is = c.in-Ok.ensures.published in
     let sent =
     sent_is s c.self.invariant.consistent c.args.m there old c.index_mut-member.ensures.value c.withdraw.new.self
-    (g.D.Draws.draw c.args.draws.now) c.draw-draw.result n_is (Withdraws c.args.s) c.in-Ok.ensures.ok
+    (g.D.Draws.draw c.args.draws.now) c.draw-draw.result n_is (Withdraws c.args.s) is.new
     c.add_reserved-sync.new.self.packets c.reserve.new.self.packets c.in_ok-vector.vector.items c.in-Ok.published.seq
     c.in-Ok.published.sync.items (ap (λ x. x.packets) c.in_ok-reserve.ensures.ok)
     (c.in_ok-vector.ensures ∙ c.vector.ensures.known)
-    c.in-Ok.ensures.seq c.in-Ok.ensures.sync c.add_reserved-sync.ensures.sent in
+    is.seq is.sync c.add_reserved-sync.ensures.sent in
     let seq : c.from.result ≡ next_seq_at (world_of c.args.self.now) c.args.m =
     c.from.ensures
     ∙ seq_is s c.self.invariant.consistent c.args.m there old c.index_mut-member.ensures.value c.in-Ok.published.seq
-    c.in-Ok.ensures.seq
+    is.seq
     ∙ ap (λ (x : GroupState). next_seq_at (world_of x) c.args.m) c.self.view_is in
     let many = length-map s.sent sync_in in
     let sync : c.from-3.result ≡ next_sync (world_of c.args.self.now) =
@@ -125,11 +121,11 @@ returns g c =
           subst (λ (x : GroupState). refusal (drawing (g.D.Draws.draw c.args.draws.now)) (world_of x) event ≡ None)
           c.self.view_is
           (withdraw_taken s c.self.invariant.consistent c.args.m there old c.index_mut-member.ensures.value c.args.s
-          (g.D.Draws.draw c.args.draws.now) c.in-Ok.ensures.object room);
+          (g.D.Draws.draw c.args.draws.now) c.in-Ok.ensures.object is.room);
       world =
           world_sent s c.self.invariant.consistent c.args.m there old c.index_mut-member.ensures.value
           c.withdraw.new.self
-          (g.D.Draws.draw c.args.draws.now) c.draw-draw.result n_is (Withdraws c.args.s) c.in-Ok.ensures.ok
+          (g.D.Draws.draw c.args.draws.now) c.draw-draw.result n_is (Withdraws c.args.s) is.new
           c.add_reserved-sync.new.self.packets sent
           ∙ ap (λ (x : GroupState). after_event (drawing (g.D.Draws.draw c.args.draws.now)) (world_of x) event)
           c.self.view_is;
