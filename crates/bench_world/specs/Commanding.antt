@@ -1,9 +1,12 @@
--- Which orders may be carried out.
-use Rattle.std.specs.Prelude.{ℕ, Bool, true, ◌==◌, ◌&&◌, List, Result, Ok, Err}
+-- Which orders may be carried out, and what a client's command leaves.
+use Rattle.std.specs.Prelude.{◌≡◌, ℕ, ◌+◌, Bool, true, ◌==◌, ◌&&◌, List, Result, Ok, Err}
 use Rattle.std.specs.List.{list_any}
 use Rattle.repo_command.specs.declared.command.Command.{Command}
+use Rattle.repo_command.specs.declared.answer.Answer.{Answer}
 use Rattle.group_model.specs.Commands.{is_equal_command}
 use Rattle.group_model.specs.World.{Issued}
+use Rattle.group_model.specs.Steps.{after_issue, command_answer}
+use Rattle.bench_world.specs.Worlds.{GroupState, world_of}
 
 -- This is the command of a client for a member.
 abbrev pub is_that : ℕ × ℕ × Command → Issued → Bool
@@ -17,3 +20,12 @@ is_issued issued m order = list_any (is_that (m, order.0, order.1)) issued
 abbrev pub may_order : List Issued → ℕ → Result (ℕ × Command) ℕ → Bool
 may_order issued m (Ok order) = is_issued issued m order
 may_order issued m (Err code) = true
+
+-- A client made a command for a member, and this is answered. It counts as a step, and leaves keys and mirrors alone.
+pub record IsIssued (old : GroupState) (m client : ℕ) (command : Command) (new : GroupState) (given : Answer)
+    : Type 0 where
+  pub world : world_of new ≡ after_issue (world_of old) m client command
+  pub answer : given ≡ command_answer (world_of old) m command
+  pub steps : new.steps ≡ old.steps + 1
+  pub keys : new.keys ≡ old.keys
+  pub mirrors : new.mirrors ≡ old.mirrors

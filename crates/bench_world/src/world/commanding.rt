@@ -4,11 +4,9 @@ ghost use Rattle.std.specs.Prelude.{OnErr};
 ghost use Rattle.repo_object.specs.Objects.{is_object_name};
 ghost use Rattle.repo_command.specs.Commands.{is_command, CommandIsSpelled};
 ghost use Rattle.group_model.specs.Limits.{IsShortInsertion};
-ghost use Rattle.group_model.specs.Steps.{after_issue, command_answer};
 ghost use Rattle.repo_member.specs.Commanded.{coded, order_of, order_made};
 ghost use Rattle.bench_world.specs.Serving.{lossless};
-ghost use Rattle.bench_world.specs.Worlds.{world_of};
-ghost use Rattle.bench_world.specs.Commanding.{may_order};
+ghost use Rattle.bench_world.specs.Commanding.{may_order, IsIssued};
 ghost use Rattle.bench_world.specs.EventValues.{EventValue, report_value, order_report};
 ghost use Rattle.bench_world.specs.Runs.{IsStep};
 
@@ -30,11 +28,7 @@ impl World {
         requires command { is_command command ≡ true }
         requires short { IsShortInsertion command }
         requires few { self.old.steps < 100000 }
-        ensures world { OnOk result (world_of self.new ≡ after_issue (world_of self.old) m client command) }
-        ensures answer { IfOk result (λ answer. answer ≡ command_answer (world_of self.old) m command) }
-        ensures steps { OnOk result (self.new.steps ≡ self.old.steps + 1) }
-        ensures keys { self.new.keys ≡ self.old.keys }
-        ensures mirrors { self.new.mirrors ≡ self.old.mirrors }
+        ensures issued { IfOk result (IsIssued self.old m client command self.new) }
         ensures err { OnErr result (self.new ≡ self.old) }
     {
         self.group.cite_soundness();

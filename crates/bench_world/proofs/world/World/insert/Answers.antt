@@ -9,11 +9,11 @@ returns c = record {
   report =
       ap (λ k. ReportValue.Insert c.args.m k c.in-Ok.answer.process c.in-Ok.answer.inserted c.in-Ok.answer.deleted)
       c.from.ensures
-      ∙ ap (insert_report c.args.m) c.in-Ok.ensures.answer;
+      ∙ ap (insert_report c.args.m) c.in-Ok.ensures.issued.answer;
   joined = tt;
-  steps = c.in-Ok.ensures.steps;
-  keys = c.issue.ensures.keys;
-  mirrors = c.issue.ensures.mirrors;
+  steps = c.in-Ok.ensures.issued.steps;
+  keys = c.in-Ok.ensures.issued.keys;
+  mirrors = c.in-Ok.ensures.issued.mirrors;
   refused = tt;
   err = tt;
 }

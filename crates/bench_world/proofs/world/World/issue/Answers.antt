@@ -1,4 +1,4 @@
-use Rattle.std.proofs.Common.{List, ◌<◌, ◌∷◌, ◌++◌, [], length, set, sym, ap, ◌∙◌, subst}
+use Rattle.std.proofs.Common.{List, ◌<◌, ◌+◌, ◌∷◌, ◌++◌, [], length, set, sym, ap, ◌∙◌, subst}
 use Rattle.group_model.specs.World.{Issued, World}
 use Rattle.group_model.specs.Steps.{after_issue, command_answer}
 use Rattle.repo_member.specs.MemberState.{MemberState}
@@ -47,8 +47,8 @@ invariant_of-self-2 c =
           c.args.command);
     }
 
-pub returns-clause-world : goal.returns-clause-world
-returns-clause-world c =
+pub returns-clause-issued : goal.returns-clause-issued
+returns-clause-issued c =
     let s = world_state c.self.inside in
     let there = subst (λ (x : GroupState). c.args.m < length x.members) (sym c.self.view_is) c.requires.there in
     let known =
@@ -63,27 +63,22 @@ returns-clause-world c =
     let made =
     c.add_reserved.ensures.made
     ∙ ap (λ (x : IssuedList). x.commands ++ issued_of one ∷ []) c.in_ok-reserve.ensures.ok in
-    issue_world s c.self.invariant.consistent c.args.m there old c.index_mut-member.ensures.value c.args.client
-    c.args.command
-    c.add_reserved.new.self.commands made c.command.new.self b_is
-    ∙ ap (λ (x : GroupState). after_issue (world_of x) c.args.m c.args.client c.args.command) c.self.view_is
-
-pub returns-clause-answer : goal.returns-clause-answer
-returns-clause-answer c =
-    let s = world_state c.self.inside in
-    let there = subst (λ (x : GroupState). c.args.m < length x.members) (sym c.self.view_is) c.requires.there in
-    let known =
-    subst (λ (x : GroupState). c.args.client < length x.keys.clients.names) (sym c.self.view_is) c.requires.client in
-    let old = c.index_mut-member.result.now in
-    let taken =
-    taken_is s c.self.invariant.consistent c.args.m there old c.index_mut-member.ensures.value c.args.client
-    c.args.command known
-    c.requires.spelled c.requires.command c.deref.result.now (c.deref.ensures.value ∙ c.in_ok-octets.ensures) in
-    c.in_ok-answered.ensures.answer.answer
-    ∙ ap (λ r. commanded.member_order_answer r old) taken
-    ∙ issue_answered s c.self.invariant.consistent c.args.m there old c.index_mut-member.ensures.value c.args.client
-    c.args.command
-    ∙ ap (λ (x : GroupState). command_answer (world_of x) c.args.m c.args.command) c.self.view_is
+    record {
+      world =
+          issue_world s c.self.invariant.consistent c.args.m there old c.index_mut-member.ensures.value c.args.client
+          c.args.command
+          c.add_reserved.new.self.commands made c.command.new.self b_is
+          ∙ ap (λ (x : GroupState). after_issue (world_of x) c.args.m c.args.client c.args.command) c.self.view_is;
+      answer =
+          c.in_ok-answered.ensures.answer.answer
+          ∙ ap (λ r. commanded.member_order_answer r old) taken
+          ∙ issue_answered s c.self.invariant.consistent c.args.m there old c.index_mut-member.ensures.value
+          c.args.client c.args.command
+          ∙ ap (λ (x : GroupState). command_answer (world_of x) c.args.m c.args.command) c.self.view_is;
+      steps = ap (λ (x : GroupState). x.steps + 1) c.self.view_is;
+      keys = ap (λ (x : GroupState). x.keys) c.self.view_is;
+      mirrors = ap (λ (x : GroupState). x.mirrors) c.self.view_is;
+    }
 
 pub invariant_of-self-in_err-answered : goal.invariant_of-self-in_err-answered
 invariant_of-self-in_err-answered c =

@@ -12,13 +12,13 @@ returns c = record {
   report =
       ap (λ k. ReportValue.Status c.args.m k c.in-Ok.answer.process c.in-Ok.answer.inserted c.in-Ok.answer.deleted)
       c.from-2.ensures
-      ∙ ap (status_report c.args.m) c.in-Ok.ensures.answer
+      ∙ ap (status_report c.args.m) c.in-Ok.ensures.issued.answer
       ∙ ap (λ k. status_report c.args.m (command_answer (world_of c.args.self.now) c.args.m (Check k)))
       c.from.ensures;
   joined = tt;
-  steps = c.in-Ok.ensures.steps;
-  keys = c.issue.ensures.keys;
-  mirrors = c.issue.ensures.mirrors;
+  steps = c.in-Ok.ensures.issued.steps;
+  keys = c.in-Ok.ensures.issued.keys;
+  mirrors = c.in-Ok.ensures.issued.mirrors;
   refused = tt;
   err = tt;
 }
