@@ -19,6 +19,7 @@ pub mod Readings
 pub mod EventValues
 pub mod Steps
 pub mod Timers
+pub mod Publishing
 pub mod Withdrawing
 pub mod Blocks
 pub mod Others

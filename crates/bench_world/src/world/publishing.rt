@@ -1,15 +1,14 @@
 // What members publish.
-ghost use Rattle.std.specs.Prelude.{◌≡◌, ◌⊎◌, ◌+◌, ◌<◌, ◌≤◌, None, Some, IsTrue, IfOk, IfErr, OnOk, OnErr, length, map};
+ghost use Rattle.std.specs.Prelude.{◌≡◌, ◌⊎◌, ◌<◌, ◌≤◌, Some, IsTrue, IfOk, IfErr, OnErr, length, map};
 ghost use Rattle.std.specs.List.{All};
 ghost use Rattle.repo_object.specs.Objects.{is_object_name, IsContent};
-ghost use Rattle.repo_object.specs.Objects.Post.{Offers};
 ghost use Rattle.repo_object.specs.Cuts.{pieces};
 ghost use Rattle.group_model.specs.Events.{Event};
-ghost use Rattle.group_model.specs.Steps.{after_publish, next_seq_at, next_sync};
 ghost use Rattle.group_model.specs.Refusals.{Refusal, refusal};
 ghost use Rattle.bench_world.specs.Worlds.{world_of, drawing};
 ghost use Rattle.bench_world.specs.EventValues.{EventValue};
 ghost use Rattle.bench_world.specs.Runs.{IsStep};
+ghost use Rattle.bench_world.specs.Publishing.{IsObjectPublished};
 ghost use Rattle.bench_world.specs.Withdrawing.{withdraw_fault};
 
 use super::World;
@@ -69,15 +68,8 @@ impl World {
         requires segments { length contents.now ≤ 20000 }
         requires contents { All (λ c. IsContent c.items) contents.now }
         requires few { self.old.steps < 100000 }
-        ensures ok { OnOk result (world_of self.new ≡ after_publish (drawing (D.draw draws.now)) (world_of self.old) m
-            (Offers (record { name = name.now; contents = map (λ c. c.items) contents.now }))) }
-        ensures taken { OnOk result (refusal (drawing (D.draw draws.now)) (world_of self.old) (Event.Publish m
-            (record { name = name.now; contents = map (λ c. c.items) contents.now })) ≡ None) }
-        ensures seq { IfOk result (λ r. r.0 ≡ next_seq_at (world_of self.old) m) }
-        ensures sync { IfOk result (λ r. r.1 ≡ next_sync (world_of self.old)) }
-        ensures steps { OnOk result (self.new.steps ≡ self.old.steps + 1) }
-        ensures keys { self.new.keys ≡ self.old.keys }
-        ensures mirrors { self.new.mirrors ≡ self.old.mirrors }
+        ensures published { IfOk result (IsObjectPublished (drawing (D.draw draws.now)) self.old m
+            (record { name = name.now; contents = map (λ c. c.items) contents.now }) self.new) }
         ensures refused { IfErr result (λ e. (e ≡ PublishRefusal.NoMemory)
             ⊎ (refusal (drawing (D.draw draws.now)) (world_of self.old) (Event.Publish m
             (record { name = name.now; contents = map (λ c. c.items) contents.now })) ≡ Some Refusal.NumbersSpent)) }

@@ -1,7 +1,8 @@
-use Rattle.std.proofs.Common.{List, ◌≡◌, ◌⊎◌, ◌<◌, Some, None, Err, map, length, set, refl, sym, ap, ◌∙◌, subst}
+use Rattle.std.proofs.Common.{List, ℕ, ◌≡◌, ◌⊎◌, ◌<◌, ◌+◌, Some, None, Err, map, length, set, refl, sym, ap, ◌∙◌, subst}
 use Rattle.std.proofs.Common.{arith}
 use Rattle.std.proofs.lemmas.Grind.{common_steps}
 use Rattle.std.proofs.lemmas.Result.{err_from_is_err_and}
+use Rattle.std.proofs.lemmas.List.{length-map}
 use Rattle.repo_object.specs.Objects.{NamedContents}
 use Rattle.repo_object.specs.Objects.Post.{Offers}
 use Rattle.bench_net.specs.SentList.{SentPacket}
@@ -9,8 +10,8 @@ use Rattle.repo_member.specs.MemberState.{MemberState}
 use Rattle.group_model.specs.Events.{Event}
 use Rattle.group_model.specs.Refusals.{Refusal, refusal}
 use Rattle.group_model.specs.World.{World}
-use Rattle.group_model.specs.Steps.{after_publish, next_seq_at}
-use Rattle.bench_world.specs.Worlds.{GroupState, IsConsistentState, in_groups, world_of, drawing}
+use Rattle.group_model.specs.Steps.{after_publish, next_seq_at, next_sync}
+use Rattle.bench_world.specs.Worlds.{GroupState, IsConsistentState, in_groups, sync_in, world_of, drawing}
 use Rattle.bench_world.specs.Kept.{world_state}
 use Rattle.bench_world.specs.Unsettled.{NobodyLacks}
 use Rattle.bench_world.proofs.States.{early, few_draws}
@@ -85,8 +86,8 @@ invariant_of-self-2 g c =
           c.add_reserved-k.new.self.packets sent));
     }
 
-pub returns-clause-ok : goal.returns-clause-ok
-returns-clause-ok g c =
+pub returns-clause-published : goal.returns-clause-published
+returns-clause-published g c =
     let s = world_state c.self.inside in
     let there = subst (λ (x : GroupState). c.args.m < length x.members) (sym c.self.view_is) c.requires.there in
     let old = c.index_mut-member.result.now in
@@ -101,32 +102,33 @@ returns-clause-ok g c =
     c.in_ok-published.published.sync.items (ap (λ x. x.packets) c.in_ok-reserve.ensures.ok)
     (c.in_ok-vector.ensures ∙ c.vector.ensures.known)
     is.seq is.sync c.add_reserved-k.ensures.sent in
-    world_sent s c.self.invariant.consistent c.args.m there old c.index_mut-member.ensures.value c.publish.new.self
-    (g.D.Draws.draw c.args.draws.now) c.draw-draw.result n_is (Offers object) is.new
-    c.add_reserved-k.new.self.packets sent
-    ∙ ap (λ (x : GroupState).
-    after_publish (drawing (g.D.Draws.draw c.args.draws.now)) (world_of x) c.args.m (Offers object))
-    c.self.view_is
-
-pub returns-clause-taken : goal.returns-clause-taken
-returns-clause-taken g c =
-    let s = world_state c.self.inside in
-    let there = subst (λ (x : GroupState). c.args.m < length x.members) (sym c.self.view_is) c.requires.there in
-    let old = c.index_mut-member.result.now in
-    let object : NamedContents = record { name = c.args.name.now; contents = map (λ x. x.items) c.args.contents.now } in
-    let room = c.in_ok-published.ensures.published.room in
-    subst (λ (x : GroupState).
-    refusal (drawing (g.D.Draws.draw c.args.draws.now)) (world_of x) (Event.Publish c.args.m object) ≡ None)
-    c.self.view_is
-    (not_spent s c.self.invariant.consistent c.args.m there old c.index_mut-member.ensures.value room)
-
-pub returns-clause-seq : goal.returns-clause-seq
-returns-clause-seq g c =
-    let s = world_state c.self.inside in
-    let there = subst (λ (x : GroupState). c.args.m < length x.members) (sym c.self.view_is) c.requires.there in
-    seq_is s c.self.invariant.consistent c.args.m there c.index_mut-member.result.now c.index_mut-member.ensures.value
-    c.in_ok-published.published.seq c.in_ok-published.ensures.published.seq
-    ∙ ap (λ (x : GroupState). next_seq_at (world_of x) c.args.m) c.self.view_is
+    record {
+      taken =
+          subst (λ (x : GroupState).
+          refusal (drawing (g.D.Draws.draw c.args.draws.now)) (world_of x) (Event.Publish c.args.m object) ≡ None)
+          c.self.view_is
+          (not_spent s c.self.invariant.consistent c.args.m there old c.index_mut-member.ensures.value is.room);
+      world =
+          world_sent s c.self.invariant.consistent c.args.m there old c.index_mut-member.ensures.value
+          c.publish.new.self
+          (g.D.Draws.draw c.args.draws.now) c.draw-draw.result n_is (Offers object) is.new
+          c.add_reserved-k.new.self.packets sent
+          ∙ ap (λ (x : GroupState).
+          after_publish (drawing (g.D.Draws.draw c.args.draws.now)) (world_of x) c.args.m (Offers object))
+          c.self.view_is;
+      seq =
+          seq_is s c.self.invariant.consistent c.args.m there old c.index_mut-member.ensures.value
+          c.in_ok-published.published.seq is.seq
+          ∙ ap (λ (x : GroupState). next_seq_at (world_of x) c.args.m) c.self.view_is;
+      sync =
+          c.add_reserved-k.ensures.number
+          ∙ ap (λ x. length x.packets + 1) c.in_ok-reserve.ensures.ok
+          ∙ ap (λ (n : ℕ). n + 1) (sym (length-map s.sent sync_in))
+          ∙ ap (λ (x : GroupState). next_sync (world_of x)) c.self.view_is;
+      steps = ap (λ (x : GroupState). x.steps + 1) c.self.view_is;
+      keys = ap (λ (x : GroupState). x.keys) c.self.view_is;
+      mirrors = ap (λ (x : GroupState). x.mirrors) c.self.view_is;
+    }
 
 pub invariant_of-self-in_err-published : goal.invariant_of-self-in_err-published
 invariant_of-self-in_err-published g c =
