@@ -14,6 +14,7 @@ pub mod MirrorWords
 pub mod MirrorsHold
 pub mod Gathering
 pub mod Fetching
+pub mod Counts
 pub mod Settling
 pub mod Readings
 pub mod EventValues

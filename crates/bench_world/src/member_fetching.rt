@@ -1,10 +1,9 @@
 // What a member fetches of the others.
 ghost use Rattle.std.specs.Prelude.{◌≡◌, length, IfOk, OnOk, OnErr};
-ghost use Rattle.std.specs.List.{sum_by};
 ghost use Rattle.group_model.specs.World.{World, logs};
-ghost use Rattle.group_model.specs.Steps.{planned_parts, fetched_parts, attempts_made, after_fetch};
+ghost use Rattle.group_model.specs.Steps.{after_fetch};
 ghost use Rattle.bench_world.specs.Serving.{environment};
-ghost use Rattle.bench_world.specs.Sizes.{size_of};
+ghost use Rattle.bench_world.specs.Counts.{AreFetchCounts};
 ghost use Rattle.bench_world.specs.Conditions.{CanFetchAt};
 ghost use Rattle.bench_world.specs.Worlds.{in_groups};
 ghost use Rattle.bench_world.specs.Worlds.{AreConsistentMembers, MembersAreNumbered};
@@ -33,13 +32,8 @@ pub(crate) fn fetch_at<N: Net + Sync, R: Threads + Sync>(
     requires { CanFetchAt g.now begun workers tries j members.old.items }
     ensures members { OnOk result (in_groups members.new.items
         ≡ (after_fetch (environment g.now (λ _ _. 0) (N.passes net.now)) begun j tries loss).members) }
-    ensures planned { IfOk result (λ r. r.planned ≡ length (planned_parts begun j)) }
-    ensures parts { IfOk result (λ r. r.kept.parts
-        ≡ length (fetched_parts (environment g.now (λ _ _. 0) (N.passes net.now)) begun j tries loss)) }
-    ensures octets { IfOk result (λ r. r.kept.octets ≡ sum_by (size_of g.now (logs begun))
-        (fetched_parts (environment g.now (λ _ _. 0) (N.passes net.now)) begun j tries loss)) }
-    ensures attempts { IfOk result (λ r. r.attempts
-        ≡ attempts_made (environment g.now (λ _ _. 0) (N.passes net.now)) begun j tries loss) }
+    ensures counts { IfOk result
+        (AreFetchCounts g.now (environment g.now (λ _ _. 0) (N.passes net.now)) begun j tries loss) }
     ensures len { length members.new.items ≡ length members.old.items }
     ensures consistent { AreConsistentMembers g.now (logs begun) members.new.items }
     ensures numbers { MembersAreNumbered members.new.items }

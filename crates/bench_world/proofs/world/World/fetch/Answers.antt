@@ -43,7 +43,7 @@ overflow_add-self g c =
     let fits =
     fetch_fits s c.self.invariant.consistent few (g.N.Net.passes c.args.net.now) c.args.m c.args.tries c.args.loss
     c.requires.tries.1 c.in-Ok.counts.attempts c.in-Ok.counts.kept.parts c.in-Ok.counts.kept.octets
-    c.in-Ok.ensures.attempts c.in-Ok.ensures.parts c.in-Ok.ensures.octets in
+    c.in-Ok.ensures.counts.attempts c.in-Ok.ensures.counts.parts c.in-Ok.ensures.counts.octets in
     omega (arith, fits.0)
 
 pub overflow_add-self-3 : goal.overflow_add-self-3
@@ -53,7 +53,7 @@ overflow_add-self-3 g c =
     let fits =
     fetch_fits s c.self.invariant.consistent few (g.N.Net.passes c.args.net.now) c.args.m c.args.tries c.args.loss
     c.requires.tries.1 c.in-Ok.counts.attempts c.in-Ok.counts.kept.parts c.in-Ok.counts.kept.octets
-    c.in-Ok.ensures.attempts c.in-Ok.ensures.parts c.in-Ok.ensures.octets in
+    c.in-Ok.ensures.counts.attempts c.in-Ok.ensures.counts.parts c.in-Ok.ensures.counts.octets in
     omega (arith, fits.2)
 
 pub invariant_of-self-2 : goal.invariant_of-self-2
@@ -67,7 +67,8 @@ invariant_of-self-2 g c =
           fetch_state s c.self.invariant.consistent few (g.N.Net.passes c.args.net.now) c.args.m c.args.tries
           c.args.loss
           c.requires.tries.1 c.in-Ok.counts.attempts c.from.result c.in-Ok.counts.kept.octets
-          c.in-Ok.ensures.attempts (c.from.ensures ∙ c.in-Ok.ensures.parts) c.in-Ok.ensures.octets
+          c.in-Ok.ensures.counts.attempts (c.from.ensures ∙ c.in-Ok.ensures.counts.parts)
+          c.in-Ok.ensures.counts.octets
           c.fetch_at-fetched.new.members.items c.in-Ok.ensures.members c.fetch_at-fetched.ensures.len
           c.fetch_at-fetched.ensures.numbers c.fetch_at-fetched.ensures.consistent;
       nobody_lacks =
@@ -89,14 +90,16 @@ returns g c =
           fetch_world s c.self.invariant.consistent few (g.N.Net.passes c.args.net.now) c.args.m c.args.tries
           c.args.loss
           c.requires.tries.1 c.in-Ok.counts.attempts c.from.result c.in-Ok.counts.kept.octets
-          c.in-Ok.ensures.attempts (c.from.ensures ∙ c.in-Ok.ensures.parts) c.in-Ok.ensures.octets
+          c.in-Ok.ensures.counts.attempts (c.from.ensures ∙ c.in-Ok.ensures.counts.parts)
+          c.in-Ok.ensures.counts.octets
           c.fetch_at-fetched.new.members.items c.in-Ok.ensures.members
           ∙ ap (λ (x : GroupState). after_fetch (environment x.keys (λ _ _. 0) (g.N.Net.passes c.args.net.now))
           (world_of x)
           c.args.m c.args.tries c.args.loss) c.self.view_is;
       report =
-          (λ i. ReportValue.Fetch c.args.m (c.in-Ok.ensures.planned i) ((c.from-2.ensures ∙ c.in-Ok.ensures.parts) i)
-          (c.in-Ok.ensures.attempts i))
+          (λ i. ReportValue.Fetch c.args.m (c.in-Ok.ensures.counts.planned i)
+          ((c.from-2.ensures ∙ c.in-Ok.ensures.counts.parts) i)
+          (c.in-Ok.ensures.counts.attempts i))
           ∙ ap (λ (x : GroupState). ReportValue.Fetch c.args.m (length (planned_parts (world_of x) c.args.m))
           (length (fetched_parts (environment x.keys (λ _ _. 0) (g.N.Net.passes c.args.net.now)) (world_of x) c.args.m
           c.args.tries c.args.loss))

@@ -1,0 +1,16 @@
+-- What is counted of fetches.
+use Rattle.std.specs.Prelude.{ℕ, ◌≡◌, length, sum_by}
+use Rattle.group_model.specs.World.{World, Environment, logs}
+use Rattle.group_model.specs.Steps.{planned_parts, fetched_parts, attempts_made}
+use Rattle.repo_member.specs.Groups.{GroupKeys}
+use Rattle.bench_world.specs.Sizes.{size_of}
+use Rattle.bench_world.specs.declared.fetch.FetchReport.{FetchReport}
+
+-- The counts of a fetch by the member of this number are those of the group's fetch: the parts that were asked for,
+-- those that came and their octets, and the attempts.
+pub record AreFetchCounts (g : GroupKeys) (env : Environment) (w : World) (j tries loss : ℕ) (r : FetchReport) : Type
+    0 where
+  pub planned : r.planned ≡ length (planned_parts w j)
+  pub parts : r.kept.parts ≡ length (fetched_parts env w j tries loss)
+  pub octets : r.kept.octets ≡ sum_by (size_of g (logs w)) (fetched_parts env w j tries loss)
+  pub attempts : r.attempts ≡ attempts_made env w j tries loss
