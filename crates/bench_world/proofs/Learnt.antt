@@ -6,7 +6,7 @@ use Rattle.std.proofs.lemmas.Bool.{cases_lt}
 use Rattle.std.proofs.lemmas.List.{ext_get_or, get_or-map, length-map}
 use Rattle.svs_vector.specs.Vectors.{join, join_all}
 use Rattle.svs_vector.proofs.JoinLemmas.{join_covered, covers_each}
-use Rattle.group_model.specs.Publications.{last_of}
+use Rattle.group_model.specs.Publications.{Logs, last_of}
 use Rattle.group_model.specs.Member.{Member}
 use Rattle.group_model.specs.World.{World, no_member, member, logs}
 use Rattle.group_model.specs.Settles.{learnt_member}
@@ -18,7 +18,7 @@ use Rattle.repo_member.specs.MemberState.{MemberState, member_holdings, member_l
 use Rattle.repo_member.specs.InGroup.{in_group, AreLogs}
 use Rattle.repo_member.specs.ConsistentMembers.{IsConsistentMember}
 use Rattle.repo_member.proofs.PublicLaws.{learns_consistent, ends_claims_consistent}
-use Rattle.bench_world.specs.Settling.{IsPartlySettled, ArePartlySettled}
+use Rattle.bench_world.specs.Settling.{StayConsistent, IsPartlySettled, ArePartlySettled}
 use Rattle.bench_world.specs.Truth.{TriedFew, AllTriedFew}
 use Rattle.bench_world.specs.Worlds.{nobody, state_at, in_groups, AllCountsStay, AreConsistentMembers}
 use Rattle.bench_world.specs.Worlds.{MembersAreNumbered}
@@ -157,6 +157,16 @@ module _ (g : GroupKeys) (w : World) (are : AreLogs g (logs w)) (group : IsSound
       }
 
 -- What counts stays over two changes.
-pub counts_then : (a b c : List MemberState) → AllCountsStay a b → AllCountsStay b c → AllCountsStay a c
+counts_then : (a b c : List MemberState) → AllCountsStay a b → AllCountsStay b c → AllCountsStay a c
 counts_then a b c one two j =
     record { machine = (two j).machine ∙ (one j).machine; attempts = (two j).attempts ∙ (one j).attempts }
+
+-- Members that stay consistent after they have learnt have stayed so.
+pub stay_then : (g : GroupKeys) (ls : Logs) (a b c : List MemberState) → length b ≡ length a → AllCountsStay a b
+    → StayConsistent g ls b c → StayConsistent g ls a c
+stay_then g ls a b c len counts stay = record {
+  len = stay.len ∙ len;
+  consistent = stay.consistent;
+  numbers = stay.numbers;
+  counts = counts_then a b c counts stay.counts;
+}

@@ -2,6 +2,7 @@
 use Rattle.std.specs.Prelude.{ℕ, ◌≡◌, ◌≤◌, ◌<◌, ◌⊎◌, true, List, length, slice_index, sum_by}
 use Rattle.repo_plan.specs.declared.part.Part.{Part}
 use Rattle.repo_plan.specs.Plan.{no_claims}
+use Rattle.group_model.specs.Publications.{Logs}
 use Rattle.group_model.specs.Member.{Member, member_holds}
 use Rattle.group_model.specs.Settles.{IsGathering}
 use Rattle.group_model.specs.World.{World, member, logs, someone_holds}
@@ -21,6 +22,14 @@ sent_sync t = sent_packet t.sender t.vector.items t.octets.items
 -- How many parts come to all members, and how many octets, where each part counts as `weight` says.
 abbrev pub new_parts_sum : (Part → ℕ) → World → List Member → ℕ
 new_parts_sum weight w ms = sum_by (λ m. sum_by weight (new_parts w m)) ms
+
+-- After a call there are as many members, each consistent and under its number; the draws of its machine and the
+-- attempts of its parts stay.
+pub record StayConsistent (g : GroupKeys) (ls : Logs) (old new : List MemberState) : Type 0 where
+  pub len : length new ≡ length old
+  pub consistent : AreConsistentMembers g ls new
+  pub numbers : MembersAreNumbered new
+  pub counts : AllCountsStay old new
 
 -- ---- where memory was wanting
 

@@ -1,15 +1,14 @@
 // What members gather of each other in a settle.
-ghost use Rattle.std.specs.Prelude.{◌≡◌, length, map, slice_set, IfOk, OnOk, OnErr};
+ghost use Rattle.std.specs.Prelude.{◌≡◌, map, slice_set, IfOk, OnOk, OnErr};
 ghost use Rattle.group_model.specs.Publications.{Logs};
 ghost use Rattle.group_model.specs.World.{World, logs};
 ghost use Rattle.group_model.specs.Steps.{settled_member, settle_new_parts};
 ghost use Rattle.bench_world.specs.Gathering.{one_each, Counts, GainsParts, NothingLeft};
 ghost use Rattle.bench_world.specs.MemberWords.{member_words};
-ghost use Rattle.bench_world.specs.Settling.{new_parts_sum, ArePartlySettled};
+ghost use Rattle.bench_world.specs.Settling.{new_parts_sum, StayConsistent, ArePartlySettled};
 ghost use Rattle.bench_world.specs.Sizes.{size_of};
 ghost use Rattle.bench_world.specs.Conditions.{CanFetchAllAt, CanGatherAll};
 ghost use Rattle.bench_world.specs.Worlds.{state_at, others_than, in_groups};
-ghost use Rattle.bench_world.specs.Worlds.{AllCountsStay, AreConsistentMembers, MembersAreNumbered};
 
 use crate::fetch_all::fetch_all;
 use crate::lending::MemberLink;
@@ -70,10 +69,7 @@ pub(crate) fn fetch_all_for_members<N: Net + Sync, R: Threads + Sync>(
     ensures parts { IfOk result (λ r. r.0 ≡ settle_new_parts begun) }
     ensures octets { IfOk result (λ r. r.1 ≡ new_parts_sum (size_of g.now (logs begun)) begun begun.members) }
     ensures members { OnOk result (in_groups members.new.items ≡ map (settled_member begun) begun.members) }
-    ensures len { length members.new.items ≡ length members.old.items }
-    ensures consistent { AreConsistentMembers g.now (logs begun) members.new.items }
-    ensures numbers { MembersAreNumbered members.new.items }
-    ensures counts { AllCountsStay members.old.items members.new.items }
+    ensures stay { StayConsistent g.now (logs begun) members.old.items members.new.items }
     ensures err { OnErr result (ArePartlySettled begun (in_groups members.new.items)) }
 {
     let count = members.len() as u32;

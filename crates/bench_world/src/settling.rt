@@ -5,9 +5,8 @@ ghost use Rattle.group_model.specs.Steps.{settled_member, settle_new_parts};
 ghost use Rattle.repo_member.specs.MemberState.{member_resets};
 ghost use Rattle.bench_world.specs.Sizes.{size_of};
 ghost use Rattle.bench_world.specs.Conditions.{CanSettle};
-ghost use Rattle.bench_world.specs.Worlds.{state_at, in_groups, tells, AllCountsStay, AreConsistentMembers};
-ghost use Rattle.bench_world.specs.Worlds.{MembersAreNumbered};
-ghost use Rattle.bench_world.specs.Settling.{sent_sync, new_parts_sum, ArePartlySettled};
+ghost use Rattle.bench_world.specs.Worlds.{state_at, in_groups, tells};
+ghost use Rattle.bench_world.specs.Settling.{sent_sync, new_parts_sum, StayConsistent, ArePartlySettled};
 
 use crate::member_fetches::fetch_all_for_members;
 use crate::sync_exchange::{MemberSync, all_known, learn_all, tell_all};
@@ -35,10 +34,7 @@ pub(crate) fn settle_members<N: Net + Sync, R: Threads + Sync>(
     ensures parts { IfOk result (λ r. r.1 ≡ settle_new_parts begun) }
     ensures octets { IfOk result (λ r. r.2 ≡ new_parts_sum (size_of g.now (logs begun)) begun begun.members) }
     ensures members { OnOk result (in_groups members.new.items ≡ map (settled_member begun) begun.members) }
-    ensures len { length members.new.items ≡ length members.old.items }
-    ensures consistent { AreConsistentMembers g.now (logs begun) members.new.items }
-    ensures numbers { MembersAreNumbered members.new.items }
-    ensures counts { AllCountsStay members.old.items members.new.items }
+    ensures stay { StayConsistent g.now (logs begun) members.old.items members.new.items }
     // After running out of memory each member has come a part of the way.
     ensures err { OnErr result (ArePartlySettled begun (in_groups members.new.items)) }
 {

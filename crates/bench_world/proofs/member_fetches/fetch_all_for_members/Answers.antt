@@ -68,10 +68,8 @@ returns-in_err-came g c =
       parts = search rules;
       octets = search rules;
       members = search rules;
-      len = part.len;
-      consistent = part.consistent;
-      numbers = part.numbers;
-      counts = part.counts;
+      stay =
+          record { len = part.len; consistent = part.consistent; numbers = part.numbers; counts = part.counts };
       err =
           where_err c.from_residual.result
           (partly_all c.args.g.now g.begun can.sound can.logs.are c.args.members.now.items can.learnt
@@ -152,9 +150,12 @@ returns g c =
       members =
           gathered_all c.args.g.now g.begun can.sound can.logs.are ms can.learnt c.loop-j.members.items
           (subst (λ n. FetchedSoFar c.args.g.now g.begun ms n c.loop-j.members.items) all so_far);
-      len = so_far.all.len;
-      consistent = so_far.all.consistent;
-      numbers = so_far.all.numbers;
-      counts = so_far.all.counts;
+      stay =
+          record {
+            len = so_far.all.len;
+            consistent = so_far.all.consistent;
+            numbers = so_far.all.numbers;
+            counts = so_far.all.counts;
+          };
       err = tt;
     }

@@ -1,11 +1,12 @@
-use Rattle.std.proofs.Common.{◌≡◌, List, length, ap, sym, ◌∙◌, subst, arith}
+use Rattle.std.proofs.Common.{◌≡◌, List, length, refl, ap, sym, ◌∙◌, subst, arith}
 use Rattle.svs_vector.specs.Vectors.{join_all}
+use Rattle.group_model.specs.World.{logs}
 use Rattle.repo_member.specs.MemberState.{MemberState}
 use Rattle.bench_world.specs.Touching.{NoneLacks}
 use Rattle.bench_world.proofs.Lacking.{learnt_lacks}
 use Rattle.bench_world.proofs.KnownByAll.{knowns, joined_short}
 use Rattle.bench_world.proofs.EitherAnswer.{where_err}
-use Rattle.bench_world.proofs.Learnt.{few_members, widths, own_known, all_width, have_learnt, counts_then}
+use Rattle.bench_world.proofs.Learnt.{few_members, widths, own_known, all_width, have_learnt, stay_then}
 use Rattle.bench_world.proofs.Learnt.{partly_none}
 use Rattle.bench_world.proofs.Bounded.{condition, passed_on}
 use Rattle.bench_world.proofs.settling.settle_members.Goals as goal
@@ -21,6 +22,26 @@ returns-in_err-known-clause-err g c =
     let can = condition c.requires in
     where_err c.from_residual-in_err-known.result
     (partly_none c.args.g.now g.begun can.logs.are can.sound c.args.members.now.items can.begun can.consistent)
+
+pub returns-in_err-syncs-clause-stay : goal.returns-in_err-syncs-clause-stay
+returns-in_err-syncs-clause-stay g c =
+    let can = condition c.requires in
+    record {
+      len = refl;
+      consistent = can.consistent;
+      numbers = can.numbers;
+      counts = λ j. record { machine = refl; attempts = refl };
+    }
+
+pub returns-in_err-known-clause-stay : goal.returns-in_err-known-clause-stay
+returns-in_err-known-clause-stay g c =
+    let can = condition c.requires in
+    record {
+      len = refl;
+      consistent = can.consistent;
+      numbers = can.numbers;
+      counts = λ j. record { machine = refl; attempts = refl };
+    }
 
 pub learn_all-requires : goal.learn_all-requires
 learn_all-requires g c =
@@ -66,8 +87,8 @@ fetch_all_for_members-requires g c κs within =
           (subst (NoneLacks c.args.touched.now) can.begun can.lacks));
     })
 
-pub returns-clause-counts : goal.returns-clause-counts
-returns-clause-counts g c =
+pub returns-clause-stay : goal.returns-clause-stay
+returns-clause-stay g c =
     let can = condition c.requires in
     let ms = c.args.members.now.items in
     let all : c.in_ok-known.known ≡ join_all (knowns ms) =
@@ -75,11 +96,11 @@ returns-clause-counts g c =
     let done =
     have_learnt c.args.g.now g.begun can.logs.are can.sound ms can.begun can.consistent c.in_ok-known.known all
     c.learn_all.new.members.items c.learn_all.ensures.len c.learn_all.ensures.each in
-    counts_then ms c.learn_all.new.members.items c.fetch_all_for_members.new.members.items done.counts
-    c.fetch_all_for_members.ensures.counts
+    stay_then c.args.g.now (logs g.begun) ms c.learn_all.new.members.items c.fetch_all_for_members.new.members.items
+    c.learn_all.ensures.len done.counts c.fetch_all_for_members.ensures.stay
 
-pub returns-in_err-parts-clause-counts : goal.returns-in_err-parts-clause-counts
-returns-in_err-parts-clause-counts g c =
+pub returns-in_err-parts-clause-stay : goal.returns-in_err-parts-clause-stay
+returns-in_err-parts-clause-stay g c =
     let can = condition c.requires in
     let ms = c.args.members.now.items in
     let all : c.in_ok-known.known ≡ join_all (knowns ms) =
@@ -87,5 +108,5 @@ returns-in_err-parts-clause-counts g c =
     let done =
     have_learnt c.args.g.now g.begun can.logs.are can.sound ms can.begun can.consistent c.in_ok-known.known all
     c.learn_all.new.members.items c.learn_all.ensures.len c.learn_all.ensures.each in
-    counts_then ms c.learn_all.new.members.items c.fetch_all_for_members.new.members.items done.counts
-    c.fetch_all_for_members.ensures.counts
+    stay_then c.args.g.now (logs g.begun) ms c.learn_all.new.members.items c.fetch_all_for_members.new.members.items
+    c.learn_all.ensures.len done.counts c.fetch_all_for_members.ensures.stay

@@ -75,9 +75,9 @@ invariant_of-self-in_err-settled g c =
           IsConsistentState (record s { members = c.settle_members.new.members.items; sent = ps; steps = s.steps + 1 }))
           (sym same)
           (failed_state s c.self.invariant.consistent few c.settle_members.new.members.items
-          c.settle_members.ensures.len
-          c.settle_members.ensures.numbers c.settle_members.ensures.consistent
-          c.settle_members.ensures.counts c.in_err-settled.ensures.err);
+          c.settle_members.ensures.stay.len
+          c.settle_members.ensures.stay.numbers c.settle_members.ensures.stay.consistent
+          c.settle_members.ensures.stay.counts c.in_err-settled.ensures.err);
       nobody_lacks =
           partly_settled_lack (only_members s.members) (sound_only s c.self.invariant.consistent)
           c.self.inside.unsettled s.mirrors c.self.invariant.nobody_lacks _ c.in_err-settled.ensures.err;
@@ -97,9 +97,9 @@ returns-in_err-settled-clause-err g c =
     })) c.self.view_is
     (subst (λ (ps : List SentPacket). HaveSettledPartly s
     (record s { members = c.settle_members.new.members.items; sent = ps; steps = s.steps + 1 })) (sym same)
-    (partly s c.self.invariant.consistent few c.settle_members.new.members.items c.settle_members.ensures.len
-    c.settle_members.ensures.numbers c.settle_members.ensures.consistent
-    c.settle_members.ensures.counts c.in_err-settled.ensures.err)))
+    (partly s c.self.invariant.consistent few c.settle_members.new.members.items c.settle_members.ensures.stay.len
+    c.settle_members.ensures.stay.numbers c.settle_members.ensures.stay.consistent
+    c.settle_members.ensures.stay.counts c.in_err-settled.ensures.err)))
 
 pub send_all-requires-clause-room : goal.send_all-requires-clause-room
 send_all-requires-clause-room g c =
@@ -180,7 +180,8 @@ invariant_of-self-2 g c =
           c.len-count.result c.saturating_sub.result c.in_ok-settled.settled.1 c.in_ok-settled.settled.2 count
           c.saturating_sub.ensures
           c.in_ok-settled.ensures.parts c.in_ok-settled.ensures.octets
-          c.settle_members.ensures.len c.settle_members.ensures.numbers c.settle_members.ensures.consistent;
+          c.settle_members.ensures.stay.len c.settle_members.ensures.stay.numbers
+          c.settle_members.ensures.stay.consistent;
       nobody_lacks =
           all_settled_lack (only_members s.members) (sound_only s c.self.invariant.consistent)
           c.self.inside.unsettled s.mirrors c.self.invariant.nobody_lacks _ _ refl c.in_ok-settled.ensures.members;
