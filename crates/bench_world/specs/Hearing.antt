@@ -1,7 +1,9 @@
 -- What octets tell a member as a sync Interest.
-use Rattle.std.specs.Prelude.{ℕ, List, Result, Ok, Err, slice_index, nat_lt, if◌then◌else◌}
+use Rattle.std.specs.Prelude.{ℕ, ◌≡◌, ◌≤◌, List, Result, Ok, Err, length, slice_index, nat_lt, if◌then◌else◌}
 use Rattle.svs_sync.specs.declared.sync_refusal.SyncRefusal.{SyncRefusal}
 use Rattle.group_model.specs.Events.{SyncInterest}
+use Rattle.repo_member.specs.Groups.{node_limit}
+use Rattle.repo_member.specs.MemberState.{MemberState}
 use Rattle.repo_member.specs.declared.refusals.HearRefusal.{HearRefusal}
 use Rattle.repo_member.specs.declared.refusals.HearRefusal.TheVariants.{Sync, OwnNumberAhead}
 
@@ -11,3 +13,10 @@ accepted_sync own number (Err refusal) = Err (Sync refusal)
 accepted_sync own number (Ok received) =
     if nat_lt own (slice_index received.1 number) then Err (OwnNumberAhead own (slice_index received.1 number))
     else Ok (record { sender = received.0; vector = received.1 })
+
+-- A vector has a number for each member, of which there are not too many, and reports no more publications of the
+-- member that hears it than it made.
+pub record CanHearVector (received : List ℕ) (a : MemberState) : Type 0 where
+  pub own : slice_index received a.number ≤ length a.log
+  pub width : length received ≡ length a.known
+  pub members : length received ≤ node_limit

@@ -3,10 +3,9 @@ ghost use Rattle.std.specs.Prelude.{◌≡◌, ◌⊎◌, ◌<◌, ◌≤◌, �
 ghost use Rattle.std.specs.Prelude.{length, slice_index};
 ghost use Rattle.bench_net.specs.SentList.{was_sent};
 ghost use Rattle.svs_sync.specs.Suppression.{mode_of};
-ghost use Rattle.repo_member.specs.Groups.{node_limit};
 ghost use Rattle.repo_member.specs.MemberState.{IsOfGroup, member_hears};
 ghost use Rattle.repo_member.specs.Verdicts.{group_verdict};
-ghost use Rattle.bench_world.specs.Hearing.{accepted_sync};
+ghost use Rattle.bench_world.specs.Hearing.{accepted_sync, CanHearVector};
 
 use crate::event::EventError;
 use crate::numbers::numbers;
@@ -62,9 +61,7 @@ pub(crate) fn hear_sent(
     now: u64,
     draw: u32,
 ) -> Result<Mode, EventError>
-    requires own { slice_index vector.now member.old.number ≤ length member.old.log }
-    requires width { length vector.now ≡ length member.old.known }
-    requires members { length vector.now ≤ node_limit }
+    requires vector { CanHearVector vector.now member.old }
     requires early { now < 2 ^ 62 }
     requires few { member.old.machine.draws < 2 ^ 62 }
     ensures sent { OnOk result (was_sent signer vector.now sent.now.packets ≡ true) }

@@ -95,6 +95,13 @@ returns-in-Err-OwnNumberAhead g c =
       err = tt;
     }
 
+pub hear_sent-requires-clause-vector : goal.hear_sent-requires-clause-vector
+hear_sent-requires-clause-vector g c = record {
+  own = first_of (search rules, grind (arith, common_steps));
+  width = first_of (search rules, grind (arith, common_steps));
+  members = first_of (search rules, grind (arith, common_steps));
+}
+
 pub hear_sent-requires-clause-few : goal.hear_sent-requires-clause-few
 hear_sent-requires-clause-few g c =
     let s = world_state c.self.inside in
