@@ -1,10 +1,18 @@
 -- What is counted of fetches.
-use Rattle.std.specs.Prelude.{ℕ, ◌≡◌, length, sum_by}
+use Rattle.std.specs.Prelude.{ℕ, ◌≡◌, List, Option, length, is_some, count_by, sum_by}
+use Rattle.repo_object.specs.Verdict.{CheckedPart}
 use Rattle.group_model.specs.World.{World, Environment, logs}
 use Rattle.group_model.specs.Steps.{planned_parts, fetched_parts, attempts_made}
+use Rattle.repo_member.specs.declared.member.outcome.FetchCounts.{FetchCounts}
 use Rattle.repo_member.specs.Groups.{GroupKeys}
+use Rattle.repo_member.specs.Outcomes.{octets_in}
 use Rattle.bench_world.specs.Sizes.{size_of}
 use Rattle.bench_world.specs.declared.fetch.FetchReport.{FetchReport}
+
+-- How many packets came for jobs, and how many octets.
+pub record AreCountsOf (came : List (Option CheckedPart)) (kept : FetchCounts) : Type 0 where
+  pub parts : kept.parts ≡ count_by is_some came
+  pub octets : kept.octets ≡ sum_by octets_in came
 
 -- The counts of a fetch by the member of this number are those of the group's fetch: the parts that were asked for,
 -- those that came and their octets, and the attempts.

@@ -1,11 +1,12 @@
 // Who holds parts, and fetches more of them.
-ghost use Rattle.std.specs.Prelude.{◌≡◌, ◌≤◌, length, map, is_some, count_by, IfOk, OnOk, OnErr};
+ghost use Rattle.std.specs.Prelude.{◌≡◌, ◌≤◌, length, map, IfOk, OnOk, OnErr};
 ghost use Rattle.std.specs.List.{All, sum_by};
 ghost use Rattle.std.specs.Thread.{IsSync};
 ghost use Rattle.repo_plan.specs.Leaps.{some_holds};
 ghost use Rattle.repo_holdings.specs.Contents.{IsDigestIn};
 ghost use Rattle.repo_holdings.specs.Taking.{PartsDiffer, with_fetched_for};
 ghost use Rattle.repo_member.specs.Outcomes.{IsOutcomeOf, jobs_of, job_limit, outcome_of, octets_in};
+ghost use Rattle.bench_world.specs.Counts.{AreCountsOf};
 ghost use Rattle.bench_world.specs.Holders.{HolderPredicates, AreHolders, jobs_that};
 ghost use Rattle.bench_world.specs.Touching.{lend_touched};
 
@@ -70,8 +71,7 @@ pub(crate) trait Holder {
         requires outcome { IsOutcomeOf g.now (words.holdings self.old) jobs.now parts.now attempts.now }
         requires few { length jobs.now ≤ job_limit }
         ensures ok { OnOk result (self.new ≡ words.takes (outcome_of jobs.now parts.now attempts.now) self.old) }
-        ensures parts { IfOk result (λ kept. kept.parts ≡ count_by is_some parts.now) }
-        ensures octets { IfOk result (λ kept. kept.octets ≡ sum_by octets_in parts.now) }
+        ensures counts { IfOk result (AreCountsOf parts.now) }
         ensures err { OnErr result (self.new ≡ self.old) };
 
     ghost are_holders: { AreHolders words };

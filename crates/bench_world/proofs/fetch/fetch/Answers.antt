@@ -101,8 +101,8 @@ returns g c =
           c.in_ok-kept.ensures.ok
           ∙ ap (λ (xs : List Fetched). g.H.Holder.words.takes xs c.args.holder.now) came.is;
       planned = omega (arith, count, same, c.in_ok-jobs.jobs.ok);
-      parts = c.in_ok-kept.ensures.parts ∙ came.parts;
-      octets = c.in_ok-kept.ensures.octets ∙ came.octets;
+      parts = c.in_ok-kept.ensures.counts.parts ∙ came.parts;
+      octets = c.in_ok-kept.ensures.counts.octets ∙ came.octets;
       attempts =
           c.total.ensures
           ∙ ap sum (c.deref-5.ensures.value ∙ sym c.deref-4.ensures.value ∙ came.attempts);

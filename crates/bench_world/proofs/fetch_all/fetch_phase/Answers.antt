@@ -88,7 +88,7 @@ returns g c =
           can.tried _ asks c.deref.result.now (c.deref.ensures.value ∙ c.in_ok-jobs.ensures)
           c.members.result.now c.members.ensures.ring
           c.in-Some.last.now (length c.deref.result.now - 1) (sym c.in-Some.ensures.value);
-      parts = c.in_ok-kept.ensures.parts ∙ came.parts;
-      octets = c.in_ok-kept.ensures.octets ∙ came.octets;
+      parts = c.in_ok-kept.ensures.counts.parts ∙ came.parts;
+      octets = c.in_ok-kept.ensures.counts.octets ∙ came.octets;
       err = tt;
     }
