@@ -30,6 +30,7 @@ pub mod Answerable
 pub mod Replying
 pub mod MemberTotals
 pub mod Runs
+pub mod CarryingOut
 pub mod MirrorSteps
 pub mod MirrorFetching
 pub mod MirrorSettles

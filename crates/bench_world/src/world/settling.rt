@@ -5,6 +5,7 @@ ghost use Rattle.group_model.specs.Steps.{after_gathering, settle_new_parts};
 ghost use Rattle.bench_world.specs.Serving.{environment, lossless};
 ghost use Rattle.bench_world.specs.Worlds.{world_of};
 ghost use Rattle.bench_world.specs.Runs.{HaveSettledPartly};
+ghost use Rattle.bench_world.specs.CarryingOut.{KeepsKeysAndMirrors};
 ghost use Rattle.bench_world.specs.EventValues.{EventValue};
 ghost use Rattle.bench_world.specs.Runs.{IsStep};
 
@@ -35,8 +36,7 @@ impl World {
         // Where nothing is hidden, each catalogue is the join of all publications.
         ensures joined { OnOk result (NothingDeleted (world_of self.new) → AllJoined (world_of self.new)) }
         ensures steps { self.new.steps ≡ self.old.steps + 1 }
-        ensures keys { self.new.keys ≡ self.old.keys }
-        ensures mirrors { self.new.mirrors ≡ self.old.mirrors }
+        ensures keeps { KeepsKeysAndMirrors self.old self.new }
         ensures err { OnErr result (HaveSettledPartly self.old self.new) }
     {
         self.steps += 1;

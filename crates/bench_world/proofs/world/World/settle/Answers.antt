@@ -39,6 +39,12 @@ returns-in_err-reserve-clause-err g c =
     (subst (λ (ps : List SentPacket). HaveSettledPartly s (record s { sent = ps; steps = s.steps + 1 }))
     (sym (ap (λ x. x.packets) c.in_err-reserve.ensures.err)) (partly_before s c.self.invariant.consistent few)))
 
+pub returns-in_err-reserve-clause-keeps : goal.returns-in_err-reserve-clause-keeps
+returns-in_err-reserve-clause-keeps g c = record {
+  keys = ap (λ (x : GroupState). x.keys) c.self.view_is;
+  mirrors = ap (λ (x : GroupState). x.mirrors) c.self.view_is;
+}
+
 pub settle_members-requires : goal.settle_members-requires
 settle_members-requires g c κs within =
     let s = world_state c.self.inside in (
@@ -100,6 +106,12 @@ returns-in_err-settled-clause-err g c =
     (partly s c.self.invariant.consistent few c.settle_members.new.members.items c.settle_members.ensures.stay.len
     c.settle_members.ensures.stay.numbers c.settle_members.ensures.stay.consistent
     c.settle_members.ensures.stay.counts c.in_err-settled.ensures.err)))
+
+pub returns-in_err-settled-clause-keeps : goal.returns-in_err-settled-clause-keeps
+returns-in_err-settled-clause-keeps g c = record {
+  keys = ap (λ (x : GroupState). x.keys) c.self.view_is;
+  mirrors = ap (λ (x : GroupState). x.mirrors) c.self.view_is;
+}
 
 pub send_all-requires-clause-room : goal.send_all-requires-clause-room
 send_all-requires-clause-room g c =
@@ -216,7 +228,9 @@ returns g c =
           c.in_ok-settled.settled.2 count
           c.saturating_sub.ensures c.in_ok-settled.ensures.parts c.in_ok-settled.ensures.octets;
       steps = ap (λ (x : GroupState). x.steps + 1) c.self.view_is;
-      keys = ap (λ (x : GroupState). x.keys) c.self.view_is;
-      mirrors = ap (λ (x : GroupState). x.mirrors) c.self.view_is;
+      keeps = record {
+        keys = ap (λ (x : GroupState). x.keys) c.self.view_is;
+        mirrors = ap (λ (x : GroupState). x.mirrors) c.self.view_is;
+      };
       err = tt;
     }

@@ -76,8 +76,8 @@ returns g c =
           c.reset_all.ensures.len
           c.reset_all.ensures.each;
       steps = ap (λ (x : GroupState). x.steps) c.self-2.view_is ∙ c.settle.ensures.steps;
-      keys = ap (λ (x : GroupState). x.keys) c.self-2.view_is ∙ c.settle.ensures.keys;
-      mirrors = ap (λ (x : GroupState). x.mirrors) c.self-2.view_is ∙ c.settle.ensures.mirrors;
+      keys = ap (λ (x : GroupState). x.keys) c.self-2.view_is ∙ c.settle.ensures.keeps.keys;
+      mirrors = ap (λ (x : GroupState). x.mirrors) c.self-2.view_is ∙ c.settle.ensures.keeps.mirrors;
       refused = tt;
       err = tt;
     }
