@@ -1,6 +1,6 @@
 -- What a mirror fetches of members, in its group's words.
 use Rattle.std.specs.Prelude.{ℕ, ◌≡◌, ◌↔◌, ◌+◌, Bool, true, not, ◌||◌, List, Option, None, is_some, unwrap_or, filter}
-use Rattle.std.specs.Prelude.{find, take, if◌then◌else◌}
+use Rattle.std.specs.Prelude.{find, take, length, sum_by, if◌then◌else◌}
 use Rattle.sorted_lists.specs.SortedList.{contains}
 use Rattle.sorted_lists.specs.Range.{numbers_from}
 use Rattle.repo_plan.specs.declared.part.Part.{Part}
@@ -54,3 +54,9 @@ module _ (passes : ℕ → ℕ → ℕ → ℕ → ℕ → ℕ → Bool) (w : Wo
     pub held : (t : Part) → mirror_holds (mirror_in_group new) t
         ≡ (contains part_cmp (mirror_gets old) t || mirror_holds (mirror_in_group old) t)
     pub tried : new.attempts ≡ with_each_tried (mirror_attempts old) (mirror_counts old) old.attempts
+
+  -- How many parts are asked for, how many come, and how many attempts are made.
+  pub record AreMirrorCounts (m : MirrorState) (r : ℕ × ℕ × ℕ) : Type 0 where
+    pub planned : r.0 ≡ length (mirror_asks w m)
+    pub kept : r.1 ≡ length (mirror_gets m)
+    pub attempts : r.2 ≡ sum_by (mirror_attempts m) (mirror_asks w m)

@@ -1,5 +1,5 @@
 // The mirrors of a group.
-ghost use Rattle.std.specs.Prelude.{◌≡◌, ◌⊎◌, ◌↔◌, ◌+◌, ◌++◌, ◌∷◌, [], ◌<◌, ◌≤◌, None, Some, Err, length, sum_by};
+ghost use Rattle.std.specs.Prelude.{◌≡◌, ◌⊎◌, ◌↔◌, ◌+◌, ◌++◌, ◌∷◌, [], ◌<◌, ◌≤◌, None, Some, Err, length};
 ghost use Rattle.std.specs.Prelude.{slice_set, IfOk, IfErr, OnOk, OnErr};
 ghost use Rattle.group_model.specs.World.{sent_at, logs};
 ghost use Rattle.group_model.specs.Refusals.{unless_sent};
@@ -9,7 +9,7 @@ ghost use Rattle.repo_holdings.specs.Listed.{member_catalogue};
 ghost use Rattle.repo_mirror.specs.MirrorState.{initial_mirror};
 ghost use Rattle.repo_mirror.specs.ConsistentMirrors.{mirror_in_group};
 ghost use Rattle.bench_world.specs.MirrorSteps.{mirror_limit, mirror_at, mirror_learns, mirror_fetches};
-ghost use Rattle.bench_world.specs.MirrorFetching.{mirror_asks, mirror_gets, mirror_attempts, HasFetched};
+ghost use Rattle.bench_world.specs.MirrorFetching.{HasFetched, AreMirrorCounts};
 ghost use Rattle.bench_world.specs.Worlds.{world_of};
 
 use super::World;
@@ -137,13 +137,8 @@ impl World {
         // In the group's words: just those of the parts that came are held too.
         ensures fetched { OnOk result (HasFetched (N.passes net.now) (world_of self.old) i tries loss
             (mirror_at self.old.mirrors i) (mirror_at self.new.mirrors i)) }
-        ensures planned { IfOk result
-            (λ r. r.0 ≡ length (mirror_asks (world_of self.old) (mirror_at self.old.mirrors i))) }
-        ensures kept { IfOk result (λ r. r.1 ≡ length
-            (mirror_gets (N.passes net.now) (world_of self.old) i tries loss (mirror_at self.old.mirrors i))) }
-        ensures attempts { IfOk result (λ r. r.2 ≡ sum_by
-            (mirror_attempts (N.passes net.now) (world_of self.old) i tries loss (mirror_at self.old.mirrors i))
-            (mirror_asks (world_of self.old) (mirror_at self.old.mirrors i))) }
+        ensures counts { IfOk result (AreMirrorCounts (N.passes net.now) (world_of self.old) i tries loss
+            (mirror_at self.old.mirrors i)) }
         ensures err { OnErr result (self.new ≡ self.old) }
     {
         let counts = fetch_for(

@@ -132,43 +132,37 @@ returns-clause-fetched g c =
     (c.self.invariant.consistent.mirrors c.args.i no_mirror there) c.args.i c.args.tries c.args.loss
     c.self.invariant.consistent.members))
 
-pub returns-clause-planned : goal.returns-clause-planned
-returns-clause-planned g c =
+pub returns-clause-counts : goal.returns-clause-counts
+returns-clause-counts g c =
     let s = world_state c.self.inside in
     let there = subst (λ (x : GroupState). c.args.i < length x.mirrors) (sym c.self.view_is) c.requires.there in
     let m : MirrorState = mirror_at s.mirrors c.args.i in
-    c.in_ok-counts.ensures.planned
-    ∙ ap length
-    (asks_are (g.N.Net.passes c.args.net.now) s.keys (world_of s) c.self.invariant.consistent.are s.members refl m
-    (c.self.invariant.consistent.mirrors c.args.i no_mirror there) c.args.i c.args.tries c.args.loss)
-    ∙ ap (λ (x : GroupState). length (mirror_asks (world_of x) (mirror_at x.mirrors c.args.i))) c.self.view_is
-
-pub returns-clause-kept : goal.returns-clause-kept
-returns-clause-kept g c =
-    let s = world_state c.self.inside in
-    let there = subst (λ (x : GroupState). c.args.i < length x.mirrors) (sym c.self.view_is) c.requires.there in
-    let m : MirrorState = mirror_at s.mirrors c.args.i in
-    c.in_ok-counts.ensures.parts
-    ∙ ap (λ (as_ : List MemberState). length
-    (parts_fetched (mirror_fetched (g.N.Net.passes c.args.net.now) as_ c.args.i c.args.tries c.args.loss m)))
-    c.as_slice.ensures.value
-    ∙ ap length
-    (gets_are (g.N.Net.passes c.args.net.now) s.keys (world_of s) c.self.invariant.consistent.are s.members refl m
-    (c.self.invariant.consistent.mirrors c.args.i no_mirror there) c.args.i c.args.tries c.args.loss)
-    ∙ ap (λ (x : GroupState). length (mirror_gets (g.N.Net.passes c.args.net.now) (world_of x) c.args.i c.args.tries
-    c.args.loss (mirror_at x.mirrors c.args.i))) c.self.view_is
-
-pub returns-clause-attempts : goal.returns-clause-attempts
-returns-clause-attempts g c =
-    let s = world_state c.self.inside in
-    let there = subst (λ (x : GroupState). c.args.i < length x.mirrors) (sym c.self.view_is) c.requires.there in
-    let m : MirrorState = mirror_at s.mirrors c.args.i in
-    c.in_ok-counts.ensures.attempts
-    ∙ ap (λ (as_ : List MemberState). sum (map (λ (x : Fetched). x.attempts)
-    (mirror_fetched (g.N.Net.passes c.args.net.now) as_ c.args.i c.args.tries c.args.loss m)))
-    c.as_slice.ensures.value
-    ∙ attempts_are (g.N.Net.passes c.args.net.now) s.keys (world_of s) c.self.invariant.consistent.are s.members refl m
-    (c.self.invariant.consistent.mirrors c.args.i no_mirror there) c.args.i c.args.tries c.args.loss
-    ∙ ap (λ (x : GroupState). sum_by
-    (mirror_attempts (g.N.Net.passes c.args.net.now) (world_of x) c.args.i c.args.tries c.args.loss
-    (mirror_at x.mirrors c.args.i)) (mirror_asks (world_of x) (mirror_at x.mirrors c.args.i))) c.self.view_is
+    let consistent = c.self.invariant.consistent.mirrors c.args.i no_mirror there in
+    record {
+      planned =
+          c.in_ok-counts.ensures.planned
+          ∙ ap length
+          (asks_are (g.N.Net.passes c.args.net.now) s.keys (world_of s) c.self.invariant.consistent.are s.members refl m
+          consistent c.args.i c.args.tries c.args.loss)
+          ∙ ap (λ (x : GroupState). length (mirror_asks (world_of x) (mirror_at x.mirrors c.args.i))) c.self.view_is;
+      kept =
+          c.in_ok-counts.ensures.parts
+          ∙ ap (λ (as_ : List MemberState). length
+          (parts_fetched (mirror_fetched (g.N.Net.passes c.args.net.now) as_ c.args.i c.args.tries c.args.loss m)))
+          c.as_slice.ensures.value
+          ∙ ap length
+          (gets_are (g.N.Net.passes c.args.net.now) s.keys (world_of s) c.self.invariant.consistent.are s.members refl m
+          consistent c.args.i c.args.tries c.args.loss)
+          ∙ ap (λ (x : GroupState). length (mirror_gets (g.N.Net.passes c.args.net.now) (world_of x) c.args.i
+          c.args.tries c.args.loss (mirror_at x.mirrors c.args.i))) c.self.view_is;
+      attempts =
+          c.in_ok-counts.ensures.attempts
+          ∙ ap (λ (as_ : List MemberState). sum (map (λ (x : Fetched). x.attempts)
+          (mirror_fetched (g.N.Net.passes c.args.net.now) as_ c.args.i c.args.tries c.args.loss m)))
+          c.as_slice.ensures.value
+          ∙ attempts_are (g.N.Net.passes c.args.net.now) s.keys (world_of s) c.self.invariant.consistent.are s.members
+          refl m consistent c.args.i c.args.tries c.args.loss
+          ∙ ap (λ (x : GroupState). sum_by
+          (mirror_attempts (g.N.Net.passes c.args.net.now) (world_of x) c.args.i c.args.tries c.args.loss
+          (mirror_at x.mirrors c.args.i)) (mirror_asks (world_of x) (mirror_at x.mirrors c.args.i))) c.self.view_is;
+    }

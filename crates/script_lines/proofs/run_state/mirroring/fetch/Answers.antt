@@ -40,7 +40,7 @@ returns-clause-report g c =
     c.cite_soundness.ensures.consistent.mirrors c.args.i no_mirror c.requires.there in
     let here : mirror_as m ≡ mirror_of (map mirror_as old) c.args.i = sym (at_as old c.args.i c.requires.there) in
     let planned : c.in_ok-planned.planned ≡ length (asked_by w (mirror_of (map mirror_as old) c.args.i)) =
-    c.in_ok-planned.ensures.planned ∙ ap (λ (ts : List Part). length ts)
+    c.in_ok-planned.ensures.counts.planned ∙ ap (λ (ts : List Part). length ts)
     (sym (asked_as (g.N.Net.passes c.args.net.now) c.args.world.now.keys w c.args.i c.args.tries c.args.loss m new
     consistent
     c.in_ok-planned.ensures.fetched))
@@ -48,7 +48,7 @@ returns-clause-report g c =
     let kept : c.in_ok-planned.kept
     ≡ length (gets (g.N.Net.passes c.args.net.now) w c.args.i c.args.tries c.args.loss
     (mirror_of (map mirror_as old) c.args.i)) =
-    c.in_ok-planned.ensures.kept ∙ ap (λ (ts : List Part). length ts)
+    c.in_ok-planned.ensures.counts.kept ∙ ap (λ (ts : List Part). length ts)
     (sym (gets_as (g.N.Net.passes c.args.net.now) c.args.world.now.keys w c.args.i c.args.tries c.args.loss m new
     consistent
     c.in_ok-planned.ensures.fetched))
@@ -57,7 +57,7 @@ returns-clause-report g c =
     let attempts : c.in_ok-planned.attempts
     ≡ attempts_made (g.N.Net.passes c.args.net.now) w c.args.i c.args.tries c.args.loss
     (mirror_of (map mirror_as old) c.args.i) =
-    c.in_ok-planned.ensures.attempts
+    c.in_ok-planned.ensures.counts.attempts
     ∙ made_as (g.N.Net.passes c.args.net.now) c.args.world.now.keys w c.args.i c.args.tries c.args.loss m new consistent
     c.in_ok-planned.ensures.fetched
     ∙ ap (λ (x : Mirroring). attempts_made (g.N.Net.passes c.args.net.now) w c.args.i c.args.tries c.args.loss x)
