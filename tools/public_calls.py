@@ -23,9 +23,9 @@ TYPES = {
     ("live_member", "Live"): "enum LiveEvent",
     # After each call the world is that of the model after the event, or its mirrors are.
     ("bench_world", "World"): {
-        "step": "world",
-        "take_event": "world",
-        "run_events": "joined",
+        "step": "ok",
+        "take_event": "ok",
+        "run_events": "ok",
         "settle": "world",
         "add_mirror": "ok",
         "mirror_deliver": "ok",

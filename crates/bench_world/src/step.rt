@@ -1,14 +1,14 @@
 // One event after another.
-ghost use Rattle.std.specs.Prelude.{◌≡◌, ◌+◌, ◌<◌, ◌≤◌, None, length, IfOk, IfErr, OnOk, OnErr};
+ghost use Rattle.std.specs.Prelude.{◌≡◌, ◌+◌, ◌<◌, ◌≤◌, length, IfOk, IfErr, OnOk, OnErr};
 ghost use Rattle.std.specs.List.{All};
-ghost use Rattle.group_model.specs.Steps.{after_event, after_events};
-ghost use Rattle.group_model.specs.Refusals.{refusal, EventsAreTaken};
+ghost use Rattle.group_model.specs.Refusals.{refusal};
 ghost use Rattle.bench_world.specs.Serving.{environment};
 ghost use Rattle.bench_world.specs.Worlds.{world_of};
-ghost use Rattle.bench_world.specs.EventValues.{event_value, group_event, report_value, event_report};
-ghost use Rattle.bench_world.specs.Steps.{IsReady, NamesClient, IsFaultOf, IsStepFaultOf, NamesAll};
-ghost use Rattle.bench_world.specs.Runs.{StandsAsBefore, JoinsAfter, IsStep, event_values, group_events, IsStopped};
-ghost use Rattle.bench_world.specs.Runs.{ListLawFrom};
+ghost use Rattle.bench_world.specs.EventValues.{event_value, group_event, report_value};
+ghost use Rattle.bench_world.specs.Steps.{IsReady, NamesClient, IsFaultOf, IsStepFaultOf};
+ghost use Rattle.bench_world.specs.Runs.{StandsAsBefore, IsStep, event_values, IsStopped};
+ghost use Rattle.bench_world.specs.CarryingOut.{EventFits, HasCarriedOut, IsReportOf, HaveCarriedOut};
+ghost use Rattle.bench_world.specs.CarryingOut.{KeepsKeysAndMirrors};
 
 use crate::event::{Event, EventError, Happened, StepFault};
 use crate::world::World;
@@ -24,26 +24,18 @@ impl World {
         net: &N,
         draws: &D,
     ) -> Result<Happened, EventError>
-        requires ready { IsReady (length self.old.keys.members.names) (event_value event.now) }
-        requires clients { NamesClient (length self.old.keys.clients.names) (event_value event.now) }
+        requires fits { EventFits (length self.old.keys.members.names) (length self.old.keys.clients.names)
+            (event_value event.now) }
         requires few { self.old.steps < 100000 }
-        ensures taken { OnOk result (refusal (environment self.old.keys (D.draw draws.now) (N.passes net.now))
-            (world_of self.old) (group_event self.old.keys (event_value event.now)) ≡ None) }
-        ensures world { OnOk result
-            (world_of self.new ≡ after_event (environment self.old.keys (D.draw draws.now) (N.passes net.now))
-            (world_of self.old) (group_event self.old.keys (event_value event.now))) }
-        ensures report { IfOk result (λ happened. report_value happened ≡ event_report self.old.keys
-            (environment self.old.keys (D.draw draws.now) (N.passes net.now)) (world_of self.old)
-            (event_value event.now)) }
-        ensures all { IfOk result (λ it. NamesAll (length self.old.keys.members.names) (report_value it)) }
-        // After a settle, where nothing is hidden, each catalogue is the join of all publications.
-        ensures joined { OnOk result (JoinsAfter (event_value event.now) (world_of self.new)) }
-        ensures steps { OnOk result (self.new.steps ≡ self.old.steps + 1) }
-        ensures keys { self.new.keys ≡ self.old.keys }
-        ensures mirrors { self.new.mirrors ≡ self.old.mirrors }
+        ensures ok { OnOk result (HasCarriedOut (environment self.old.keys (D.draw draws.now) (N.passes net.now))
+            (event_value event.now) self.old self.new) }
         ensures refused { IfErr result (IsFaultOf (refusal
             (environment self.old.keys (D.draw draws.now) (N.passes net.now))
             (world_of self.old) (group_event self.old.keys (event_value event.now)))) }
+        ensures report { IfOk result (λ happened. IsReportOf
+            (environment self.old.keys (D.draw draws.now) (N.passes net.now)) (event_value event.now) self.old
+            (report_value happened)) }
+        ensures keeps { KeepsKeysAndMirrors self.old self.new }
         ensures err { OnErr result (StandsAsBefore (event_value event.now) self.old self.new) }
     {
         self.cite_soundness();
@@ -60,26 +52,18 @@ impl World {
         net: &N,
         draws: &D,
     ) -> Result<Happened, StepFault>
-        requires ready { IsReady (length self.old.keys.members.names) (event_value event.now) }
-        requires clients { NamesClient (length self.old.keys.clients.names) (event_value event.now) }
+        requires fits { EventFits (length self.old.keys.members.names) (length self.old.keys.clients.names)
+            (event_value event.now) }
         requires few { self.old.steps < 100000 }
-        ensures taken { OnOk result (refusal (environment self.old.keys (D.draw draws.now) (N.passes net.now))
-            (world_of self.old) (group_event self.old.keys (event_value event.now)) ≡ None) }
-        ensures world { OnOk result
-            (world_of self.new ≡ after_event (environment self.old.keys (D.draw draws.now) (N.passes net.now))
-            (world_of self.old) (group_event self.old.keys (event_value event.now))) }
-        ensures report { IfOk result (λ happened. report_value happened ≡ event_report self.old.keys
-            (environment self.old.keys (D.draw draws.now) (N.passes net.now)) (world_of self.old)
-            (event_value event.now)) }
-        ensures all { IfOk result (λ it. NamesAll (length self.old.keys.members.names) (report_value it)) }
-        // After a settle, where nothing is hidden, each catalogue is the join of all publications.
-        ensures joined { OnOk result (JoinsAfter (event_value event.now) (world_of self.new)) }
-        ensures steps { OnOk result (self.new.steps ≡ self.old.steps + 1) }
-        ensures keys { self.new.keys ≡ self.old.keys }
-        ensures mirrors { self.new.mirrors ≡ self.old.mirrors }
+        ensures ok { OnOk result (HasCarriedOut (environment self.old.keys (D.draw draws.now) (N.passes net.now))
+            (event_value event.now) self.old self.new) }
         ensures refused { IfErr result (IsStepFaultOf
             (refusal (environment self.old.keys (D.draw draws.now) (N.passes net.now))
             (world_of self.old) (group_event self.old.keys (event_value event.now)))) }
+        ensures report { IfOk result (λ happened. IsReportOf
+            (environment self.old.keys (D.draw draws.now) (N.passes net.now)) (event_value event.now) self.old
+            (report_value happened)) }
+        ensures keeps { KeepsKeysAndMirrors self.old self.new }
         ensures err { OnErr result (StandsAsBefore (event_value event.now) self.old self.new) }
     {
         Ok(self.take_event(rt, event, net, draws)?)
@@ -170,26 +154,16 @@ impl World {
         net: &N,
         draws: &D,
     ) -> Result<usize, (usize, StepFault)>
-        requires ready { All (λ event. IsReady (length self.old.keys.members.names) (event_value event)) events.now }
-        requires clients { All (λ event. NamesClient (length self.old.keys.clients.names) (event_value event))
-            events.now }
+        requires fits { All (λ event. EventFits (length self.old.keys.members.names)
+            (length self.old.keys.clients.names) (event_value event)) events.now }
         requires few { self.old.steps + length events.now ≤ 100000 }
         ensures count { IfOk result (λ n. n ≡ length events.now) }
-        ensures taken { OnOk result (EventsAreTaken (environment self.old.keys (D.draw draws.now) (N.passes net.now))
-            (world_of self.old) (group_events self.old.keys (event_values events.now))) }
-        ensures world { OnOk result (world_of self.new
-            ≡ after_events (environment self.old.keys (D.draw draws.now) (N.passes net.now))
-            (world_of self.old) (group_events self.old.keys (event_values events.now))) }
+        ensures ok { OnOk result (HaveCarriedOut (environment self.old.keys (D.draw draws.now) (N.passes net.now))
+            events.now self.old self.new) }
         ensures stopped { IfErr result (λ fault. IsStopped
             (environment self.old.keys (D.draw draws.now) (N.passes net.now))
             self.old (event_values events.now) fault.0 fault.1 self.new) }
-        // Where the later events publish nothing and tell all members of all, and nothing is wanted or hidden in the
-        // end, each catalogue is the join of all publications.
-        ensures joined { OnOk result (ListLawFrom (environment self.old.keys (D.draw draws.now) (N.passes net.now))
-            (world_of self.old) (group_events self.old.keys (event_values events.now)) (world_of self.new)) }
-        ensures steps { OnOk result (self.new.steps ≡ self.old.steps + length events.now) }
-        ensures keys { self.new.keys ≡ self.old.keys }
-        ensures mirrors { self.new.mirrors ≡ self.old.mirrors }
+        ensures keeps { KeepsKeysAndMirrors self.old self.new }
     {
         self.cite_soundness();
         let mut made = 0;

@@ -13,7 +13,7 @@ use Rattle.group_model.specs.Refusals as group
 use Rattle.repo_member.specs.Groups.{GroupKeys, IsKey, IsPlainNodeName, is_name_taken}
 use Rattle.bench_world.specs.Worlds.{GroupState, world_of}
 use Rattle.bench_world.specs.EventValues.{EventValue, group_event}
-use Rattle.bench_world.specs.Steps.{IsReady, NamesClient}
+use Rattle.bench_world.specs.CarryingOut.{EventFits}
 use Rattle.repo_watch.specs.Watching.{Watching}
 use Rattle.script_lines.specs.declared.run_state.RunState.{RunState}
 use Rattle.script_lines.specs.declared.run_state.Phase.{Phase}
@@ -171,11 +171,6 @@ IsEventLine (line.Mdeliver k l) = ⊥
 IsEventLine (line.Mfetch l workers tries loss) = ⊥
 IsEventLine (line.Mcatalogue l) = ⊥
 IsEventLine _ = Unit {0}
-
--- An event names members and clients of so many.
-pub record EventFits (of_members of_clients : ℕ) (e : EventValue) : Type 0 where
-  pub ready : IsReady of_members e
-  pub clients : NamesClient of_clients e
 
 -- An event that a line states can be carried out where so much is declared.
 pub record StatesFit (d : Declared) (line : Stated) : Type 0 where

@@ -7,6 +7,7 @@ ghost use Rattle.group_model.specs.Refusals.{refusal};
 ghost use Rattle.repo_member.specs.Groups.{IsPlainNodeName, node_limit};
 ghost use Rattle.bench_world.specs.EventValues.{event_value, group_event, event_report};
 ghost use Rattle.bench_world.specs.Serving.{environment};
+ghost use Rattle.bench_world.specs.CarryingOut.{EventFits};
 ghost use Rattle.bench_world.specs.Worlds.{drawing, world_of};
 ghost use Rattle.script_story.specs.ReportTexts.{report_text};
 ghost use Rattle.script_story.specs.Mirrors.{mirror_as, mirror_begins};
@@ -14,7 +15,7 @@ ghost use Rattle.script_story.specs.Evaluation.{acted, acted_by, env_by, group_n
 ghost use Rattle.script_story.specs.Evaluation.{line_taken};
 ghost use Rattle.script_story.specs.Evaluation.{mirrors_begin, initial_state, accepted, with_client_too};
 ghost use Rattle.script_story.specs.Evaluation.{with_member_too};
-ghost use Rattle.script_lines.specs.RunStates.{EventFits, HasStepped, IsAtEvent, IsBeforeEvents, IsDeclared, IsLine};
+ghost use Rattle.script_lines.specs.RunStates.{HasStepped, IsAtEvent, IsBeforeEvents, IsDeclared, IsLine};
 ghost use Rattle.script_lines.specs.RunStates.{IsNewNode, IsRunState, IsStillDeclaring, IsLineError, IsLineErrorOf};
 ghost use Rattle.script_lines.specs.RunStates.{LineIsChecked, StatesEvent, has_group, has_world, labels_of};
 ghost use Rattle.script_lines.specs.RunStates.{mirrors_in, state_of_run, phase_keys, steps, steps_in, world_in};

@@ -2,7 +2,7 @@ ghost use Rattle.std.specs.Prelude.{◌≡◌, ◌≤◌, length};
 ghost use Rattle.std.specs.List.{All};
 ghost use Rattle.repo_member.specs.Groups.{IsPlainNodeName};
 ghost use Rattle.bench_world.specs.EventValues.{event_value};
-ghost use Rattle.bench_world.specs.Steps.{IsReady, NamesClient};
+ghost use Rattle.bench_world.specs.CarryingOut.{EventFits};
 
 use super::checks::{is, same, same_octets};
 use bench_net::{FixedDraws, OpenNet};
@@ -66,8 +66,7 @@ fn group_of_two(rt: &(impl Abort + AllocGlobal)) -> Group
 
 // Alice publishes three octets in one segment.
 fn publish(rt: &(impl Abort + AllocGlobal)) -> Event
-    ensures ready { IsReady 2 (event_value result) }
-    ensures client { NamesClient 0 (event_value result) }
+    ensures { EventFits 2 0 (event_value result) }
 {
     let name = Name::from_uri(rt.alloc(), "/doc").expect(rt, "a name");
     assert!(rt; is_object_name(&name.view()));
@@ -81,8 +80,7 @@ fn publish(rt: &(impl Abort + AllocGlobal)) -> Event
 
 // Runs events from the opening. All are taken, and both members list alice's one publication.
 fn expect_doc<R: Threads + Abort + AllocGlobal + Sync>(rt: &R, events: &[Event])
-    requires ready { All (λ event. IsReady 2 (event_value event)) events.now }
-    requires client { All (λ event. NamesClient 0 (event_value event)) events.now }
+    requires fits { All (λ event. EventFits 2 0 (event_value event)) events.now }
     requires few { length events.now ≤ 100000 }
 {
     let draws = FixedDraws::new(100);
