@@ -4,6 +4,7 @@ pub use Rattle.sorted_lists.specs.SortedList
 pub use Rattle.repo_plan.specs.Parts
 pub mod Entries
 pub mod EntryTotals
+pub mod KeptEntries
 pub mod EntryFields
 pub mod EntryRows
 pub mod NameKeys

@@ -8,7 +8,7 @@ use Rattle.sha2.specs.Sha256.{sha256}
 use Rattle.ndn_name.specs.Names.{Component, encoding}
 use Rattle.repo_plan.specs.Parts.{Pair, pair_cmp}
 use Rattle.sorted_lists.specs.Members.{In}
-use Rattle.sorted_lists.specs.SortedList.{contains}
+use Rattle.sorted_lists.specs.SortedList.{Rises, contains}
 use Rattle.repo_catalog.specs.declared.entry.Entry.{Entry}
 use Rattle.repo_catalog.specs.Entries.{publication_of, entry_of, entry_has_name}
 
@@ -49,6 +49,11 @@ is_key entries q = has_hash q.0 (entry_of q.1 entries)
 pub record IsIndexOf (entries : List Entry) (ks : List Key) (waiting : List Pair) : Type 0 where
   pub listed : (q : Key) → contains key_cmp ks q ≡ true → is_key entries q ≡ true
   pub found : (q : Key) → is_key entries q ≡ true → (contains key_cmp ks q ≡ true) ⊎ In q.1 waiting
+
+-- The keys are in order, and those of an index of these entries.
+pub record AreKeysOf (entries : List Entry) (ks : List Key) (waiting : List Pair) : Type 0 where
+  pub rises : Rises key_cmp ks
+  pub indexed : IsIndexOf entries ks waiting
 
 -- There is an entry, and its object has the name.
 abbrev pub is_named : List Component → Option Entry → Bool

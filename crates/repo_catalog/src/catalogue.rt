@@ -137,9 +137,16 @@ impl Catalogue {
         self.is_in_order();
         if fresh.len() <= FEW {
             self.add_each(fresh);
-        } else {
-            self.add_in_one_pass(fresh);
+            return;
         }
+        fresh.sort_unstable_by_key(|entry| (entry.publisher, entry.seq));
+        self.spare -= fresh.len();
+        self.entries.merge(
+            fresh,
+            &mut self.aside,
+            &mut self.names,
+            &mut self.entry_totals,
+        );
     }
 
     // The same, one by one.
@@ -153,25 +160,6 @@ impl Catalogue {
         while let Some(entry) = fresh.pop() {
             self.add_reserved(entry);
         }
-    }
-
-    // The same, in one pass over all that stands after the least of them.
-    fn add_in_one_pass(&mut self, fresh: &mut Vec<Entry>)
-        requires room { length fresh.old.items ≤ self.old.spare }
-        requires apart { AreApart fresh.old.items }
-        ensures entries { self.new.entries ≡ with_entries fresh.old.items self.old.entries }
-        ensures spare { self.new.spare ≡ self.old.spare - length fresh.old.items }
-        ensures moved { fresh.new.items ≡ [] }
-        ensures capacity { vec_capacity fresh.old ≤ vec_capacity fresh.new }
-    {
-        fresh.sort_unstable_by_key(|entry| (entry.publisher, entry.seq));
-        self.spare -= fresh.len();
-        self.entries.merge(
-            fresh,
-            &mut self.aside,
-            &mut self.names,
-            &mut self.entry_totals,
-        );
     }
 
     /// Removes the entry of a publisher and number, and tells whether there was one.

@@ -4,8 +4,7 @@ ghost use Rattle.std.specs.List.{insert, remove};
 ghost use Rattle.sorted_lists.specs.SortedList.{Rises};
 ghost use Rattle.repo_plan.specs.Parts.{pair_cmp};
 ghost use Rattle.repo_catalog.specs.Entries.{with_entries, without_all, IsCatalogue};
-ghost use Rattle.repo_catalog.specs.NameKeys.{IsIndexOf};
-ghost use Rattle.repo_catalog.specs.EntryTotals.{totals_of};
+ghost use Rattle.repo_catalog.specs.KeptEntries.{AreKept, HasRoom, TakesRoom, room_of};
 
 use crate::entry::Entry;
 use crate::entry_totals::EntryTotals;
@@ -111,25 +110,17 @@ impl EntryRow {
         names: &mut NameIndex,
         entry_totals: &mut EntryTotals,
     )
-        requires in_order { IsCatalogue self.old.items }
+        requires kept { AreKept self.old.items aside.old.items names.old entry_totals.old }
         requires fresh_in_order { IsCatalogue fresh.old.items }
-        requires none_aside { aside.old.items ≡ [] }
-        requires indexed { IsIndexOf self.old.items names.old.keys names.old.waiting }
-        requires summed { entry_totals.old ≡ totals_of self.old.items }
-        requires room { length self.old.items + length fresh.old.items ≤ self.old.capacity }
-        requires room_aside { length self.old.items + length fresh.old.items ≤ vec_capacity aside.old }
-        requires room_for_names { length fresh.old.items ≤ names.old.spare }
+        requires room { HasRoom (length fresh.old.items)
+          (room_of self.old.items self.old.capacity (vec_capacity aside.old) names.old) }
         ensures entries { self.new.items ≡ with_entries fresh.old.items self.old.items }
-        ensures in_order { IsCatalogue self.new.items }
+        ensures kept { AreKept self.new.items aside.new.items names.new entry_totals.new }
         ensures moved { fresh.new.items ≡ [] }
-        ensures none_aside { aside.new.items ≡ [] }
-        ensures indexed { IsIndexOf self.new.items names.new.keys names.new.waiting }
-        ensures summed { entry_totals.new ≡ totals_of self.new.items }
-        ensures len { length self.new.items ≤ length self.old.items + length fresh.old.items }
-        ensures room { self.old.capacity ≤ self.new.capacity }
-        ensures room_aside { vec_capacity aside.old ≤ vec_capacity aside.new }
+        ensures room { TakesRoom (length fresh.old.items)
+          (room_of self.old.items self.old.capacity (vec_capacity aside.old) names.old)
+          (room_of self.new.items self.new.capacity (vec_capacity aside.new) names.new) }
         ensures room_fresh { vec_capacity fresh.old ≤ vec_capacity fresh.new }
-        ensures room_for_names { names.old.spare ≤ names.new.spare + length fresh.old.items }
     {
         close(&mut self.all, &mut self.gone);
         merge(&mut self.all, fresh, aside, names, entry_totals);

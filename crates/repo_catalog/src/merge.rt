@@ -5,6 +5,7 @@ ghost use Rattle.repo_plan.specs.Parts.{pair_cmp};
 ghost use Rattle.repo_catalog.specs.Entries.{with_entries, without_all, IsCatalogue};
 ghost use Rattle.repo_catalog.specs.NameKeys.{IsIndexOf};
 ghost use Rattle.repo_catalog.specs.EntryTotals.{totals_of};
+ghost use Rattle.repo_catalog.specs.KeptEntries.{AreKept, HasRoom, TakesRoom, room_of};
 
 use crate::entry::Entry;
 use crate::entry_totals::EntryTotals;
@@ -20,25 +21,17 @@ pub(crate) fn merge(
     names: &mut NameIndex,
     entry_totals: &mut EntryTotals,
 )
-    requires in_order { IsCatalogue entries.old.items }
+    requires kept { AreKept entries.old.items aside.old.items names.old entry_totals.old }
     requires fresh_in_order { IsCatalogue fresh.old.items }
-    requires none_aside { aside.old.items ≡ [] }
-    requires indexed { IsIndexOf entries.old.items names.old.keys names.old.waiting }
-    requires summed { entry_totals.old ≡ totals_of entries.old.items }
-    requires room { length entries.old.items + length fresh.old.items ≤ vec_capacity entries.old }
-    requires room_aside { length entries.old.items + length fresh.old.items ≤ vec_capacity aside.old }
-    requires room_for_names { length fresh.old.items ≤ names.old.spare }
+    requires room { HasRoom (length fresh.old.items)
+      (room_of entries.old.items (vec_capacity entries.old) (vec_capacity aside.old) names.old) }
     ensures entries { entries.new.items ≡ with_entries fresh.old.items entries.old.items }
-    ensures in_order { IsCatalogue entries.new.items }
+    ensures kept { AreKept entries.new.items aside.new.items names.new entry_totals.new }
     ensures moved { fresh.new.items ≡ [] }
-    ensures none_aside { aside.new.items ≡ [] }
-    ensures indexed { IsIndexOf entries.new.items names.new.keys names.new.waiting }
-    ensures summed { entry_totals.new ≡ totals_of entries.new.items }
-    ensures len { length entries.new.items ≤ length entries.old.items + length fresh.old.items }
-    ensures room { vec_capacity entries.old ≤ vec_capacity entries.new }
-    ensures room_aside { vec_capacity aside.old ≤ vec_capacity aside.new }
+    ensures room { TakesRoom (length fresh.old.items)
+      (room_of entries.old.items (vec_capacity entries.old) (vec_capacity aside.old) names.old)
+      (room_of entries.new.items (vec_capacity entries.new) (vec_capacity aside.new) names.new) }
     ensures room_fresh { vec_capacity fresh.old ≤ vec_capacity fresh.new }
-    ensures room_for_names { names.old.spare ≤ names.new.spare + length fresh.old.items }
 {
     while let Some(entry) = fresh.pop() {
         let pair = (entry.publisher, u32::from(entry.seq));

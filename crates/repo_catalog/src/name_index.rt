@@ -3,9 +3,9 @@ ghost use Rattle.std.specs.Prelude.{◌≡◌, ◌+◌, ◌<◌, ◌≤◌, ◌+
 ghost use Rattle.std.specs.Prelude.{OnOk, MatchOption};
 ghost use Rattle.std.specs.Ordering.{eq_by_cmp};
 ghost use Rattle.std.specs.declared.cmp.Ordering.TheVariants.{Less};
-ghost use Rattle.sorted_lists.specs.SortedList.{keys, contains, Rises};
+ghost use Rattle.sorted_lists.specs.SortedList.{keys, contains};
 ghost use Rattle.repo_catalog.specs.Entries.{IsCatalogue};
-ghost use Rattle.repo_catalog.specs.NameKeys.{Key, key_cmp, key_of, hash_of, IsIndexOf, IsFirstFrom};
+ghost use Rattle.repo_catalog.specs.NameKeys.{Key, key_cmp, key_of, hash_of, IsIndexOf, AreKeysOf, IsFirstFrom};
 
 use crate::entry::Entry;
 use crate::search::place_of;
@@ -154,11 +154,9 @@ impl NameIndex {
 // Puts the keys of publications that wait into a map that has room for them. One that has no entry any more has none.
 fn put_in_place(map: &mut SortedMap<Key, ()>, waiting: &mut Vec<(u32, u16)>, entries: &[Entry])
     requires in_order { IsCatalogue entries.now }
-    requires rises { Rises key_cmp (keys map.old.entries) }
-    requires indexed { IsIndexOf entries.now (keys map.old.entries) waiting.old.items }
+    requires keys { AreKeysOf entries.now (keys map.old.entries) waiting.old.items }
     requires room { length waiting.old.items ≤ map.old.spare }
-    ensures rises { Rises key_cmp (keys map.new.entries) }
-    ensures indexed { IsIndexOf entries.now (keys map.new.entries) waiting.new.items }
+    ensures keys { AreKeysOf entries.now (keys map.new.entries) waiting.new.items }
     ensures none_waits { waiting.new.items ≡ [] }
     ensures room { map.old.spare ≤ map.new.spare + length waiting.old.items }
     ensures room_to_wait { vec_capacity waiting.old ≤ vec_capacity waiting.new }

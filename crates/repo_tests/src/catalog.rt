@@ -183,6 +183,16 @@ fn many_objects_at_once(rt: HostRuntime) {
     add_one_again(&rt, &mut catalogue);
     compare_order(&rt, &catalogue, &KEPT);
     compare_named(&rt, &catalogue, "/a", &[(0, 7), (1, 1), (2, 3), (2, 9)]);
+    compare_indexed(&rt, &mut catalogue);
+}
+
+// The removal puts all names into the index. Then that of the entry which is added waits.
+fn compare_indexed(rt: &(impl Abort + AllocGlobal), catalogue: &mut Catalogue) {
+    is(rt, catalogue.remove(1, 1), "removed");
+    compare_named(rt, catalogue, "/a", &[(0, 7), (2, 3), (2, 9)]);
+    catalogue.reserve(1).expect(rt, "memory");
+    add_one_again(rt, catalogue);
+    compare_named(rt, catalogue, "/a", &[(0, 7), (1, 1), (2, 3), (2, 9)]);
 }
 
 fn add_fresh(rt: &(impl Abort + AllocGlobal), catalogue: &mut Catalogue)

@@ -26,20 +26,20 @@ pub loop-entry-init : goal.loop-entry-init
 loop-entry-init c =
     let es = c.args.entries.now.items in
     let fs = c.args.fresh.now.items in
-    let none : reverse c.args.aside.now.items ≡ [] = ap reverse c.requires.none_aside in
+    let none : reverse c.args.aside.now.items ≡ [] = ap reverse c.requires.kept.none_aside in
     let all : es ++ reverse c.args.aside.now.items ≡ es = ap (λ (a : List Entry). es ++ a) none ∙ append-nil es in
     let all_fresh : fs ++ reverse c.args.aside.now.items ≡ fs = ap (λ (a : List Entry). fs ++ a) none ∙ append-nil fs in
-    let empty : length c.args.aside.now.items ≡ 0 = ap length c.requires.none_aside in
+    let empty : length c.args.aside.now.items ≡ 0 = ap length c.requires.kept.none_aside in
     record {
-      in_order = subst IsCatalogue (sym all) c.requires.in_order;
+      in_order = subst IsCatalogue (sym all) c.requires.kept.in_order;
       ahead = subst IsCatalogue (sym all_fresh) c.requires.fresh_in_order;
       all = λ k.
           ap (λ (xs : List Entry). option_or (entry_of k xs) (entry_of k fs)) all
-          ∙ sym (adds_all fs es k c.requires.in_order);
+          ∙ sym (adds_all fs es k c.requires.kept.in_order);
       indexed =
           subst (λ (xs : List Entry). IsIndexOf xs c.args.names.now.keys c.args.names.now.waiting) (sym all)
-          c.requires.indexed;
-      summed = c.requires.summed ∙ ap totals_of (sym all);
+          c.requires.kept.indexed;
+      summed = c.requires.kept.summed ∙ ap totals_of (sym all);
       len = omega (arith, empty, c.args.aside.now.ok);
       room = omega arith;
       room_aside = omega arith;
@@ -57,7 +57,7 @@ unwrap-requires c =
       c.in-Some.ensures.len,
       c.loop-entry.invariant.len,
       c.loop-entry.invariant.room_aside,
-      c.requires.room_aside,
+      c.requires.room.room_aside,
     ))
 
 pub loop-entry-preserved-in-Err : goal.loop-entry-preserved-in-Err
@@ -180,7 +180,7 @@ returns-clause-entries c =
     let empty : c.loop-entry.fresh.items ≡ [] =
     no_items c.loop-entry.fresh.items (omega (arith, c.in_default.ensures.cases.0, c.loop-entry.fresh.ok)) in
     c.put_back.ensures.all
-    ∙ entries_tell_all now (with_entries fs es) before.in_order (with_entries_rises fs es c.requires.in_order)
+    ∙ entries_tell_all now (with_entries fs es) before.in_order (with_entries_rises fs es c.requires.kept.in_order)
     (λ k. or_none (entry_of k now)
     ∙ ap (λ (xs : List Entry). option_or (entry_of k now) (entry_of k xs)) (sym empty)
     ∙ before.all k)

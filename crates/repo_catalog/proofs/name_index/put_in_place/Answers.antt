@@ -28,13 +28,15 @@ loop-publisher-preserved-in-Ok c =
     let len : length c.loop-publisher.waiting.items ≡ length c.pop.new.self.items + 1 =
     omega (arith, c.in-Some.ensures.len, c.loop-publisher.waiting.ok, c.pop.new.self.ok) in
     record {
-      rises = rw c.insert.ensures.entries (rises_with_value exact_keys key _ old before.rises);
-      indexed =
-          index_placed x k es (keys old) (keys c.insert.new.self.entries) c.pop.new.self.items there
-          (λ q. ap (λ (ks : List Key). contains key_cmp ks q) new
-          ∙ contains-insert_key exact_keys key (keys old) q
-          ∙ ap (λ (z : Key). eq_by_cmp key_cmp q z || contains key_cmp (keys old) q) c.key_of.ensures)
-          (subst (IsIndexOf es (keys old)) popped before.indexed);
+      keys = record {
+        rises = rw c.insert.ensures.entries (rises_with_value exact_keys key _ old before.keys.rises);
+        indexed =
+            index_placed x k es (keys old) (keys c.insert.new.self.entries) c.pop.new.self.items there
+            (λ q. ap (λ (ks : List Key). contains key_cmp ks q) new
+            ∙ contains-insert_key exact_keys key (keys old) q
+            ∙ ap (λ (z : Key). eq_by_cmp key_cmp q z || contains key_cmp (keys old) q) c.key_of.ensures)
+            (subst (IsIndexOf es (keys old)) popped before.keys.indexed);
+      };
       room = omega (arith, before.room, c.insert.ensures.spare, len);
       left = omega (arith, before.left, c.insert.ensures.spare, len);
       room_to_wait = omega (arith, before.room_to_wait, c.pop.ensures.capacity);
@@ -54,10 +56,12 @@ loop-publisher-preserved c =
     let len : length c.loop-publisher.waiting.items ≡ length c.pop.new.self.items + 1 =
     omega (arith, c.in-Some.ensures.len, c.loop-publisher.waiting.ok, c.pop.new.self.ok) in
     record {
-      rises = before.rises;
-      indexed =
-          index_passed k es (keys c.loop-publisher.map.entries) c.pop.new.self.items none
-          (subst (IsIndexOf es (keys c.loop-publisher.map.entries)) popped before.indexed);
+      keys = record {
+        rises = before.keys.rises;
+        indexed =
+            index_passed k es (keys c.loop-publisher.map.entries) c.pop.new.self.items none
+            (subst (IsIndexOf es (keys c.loop-publisher.map.entries)) popped before.keys.indexed);
+      };
       room = omega (arith, before.room, len);
       left = omega (arith, before.left, len);
       room_to_wait = omega (arith, before.room_to_wait, c.pop.ensures.capacity);

@@ -16,7 +16,7 @@ returns-in_default-clause-added c =
     let place =
     found_place es k (Ok c.in_default.field-0) c.in_default.ensures.ordered c.in_default.ensures.bound
     c.in_default.ensures.position in
-    let there = ap is_some (entry_at k es c.in_default.field-0 c.args.entry c.self.invariant.in_order place) in
+    let there = ap is_some (entry_at k es c.in_default.field-0 c.args.entry c.self.invariant.kept.in_order place) in
     sym (ap (λ (l : EntryList). not (lists k l.entries)) (sym c.self.view_is) ∙ ap not there)
 
 pub returns-in_default-clause-entries : goal.returns-in_default-clause-entries
@@ -25,7 +25,7 @@ returns-in_default-clause-entries c =
     let place =
     found_place es (publication_of c.args.entry) (Ok c.in_default.field-0) c.in_default.ensures.ordered
     c.in_default.ensures.bound c.in_default.ensures.position in
-    sym (with_entry_at c.args.entry es c.in_default.field-0 c.self.invariant.in_order place)
+    sym (with_entry_at c.args.entry es c.in_default.field-0 c.self.invariant.kept.in_order place)
     ∙ ap (λ (l : EntryList). with_entry c.args.entry l.entries) c.self.view_is
 
 pub invariant_of-self-2 : goal.invariant_of-self-2
@@ -40,28 +40,32 @@ invariant_of-self-2 c =
     let spare = ap (λ (l : EntryList). l.spare) c.self.view_is in
     let missing = no_entry_between (publication_of c.args.entry) es c.in-Err.place place in
     record {
-      in_order = subst IsCatalogue (sym entries) (with_entry_rises c.args.entry es c.self.invariant.in_order);
-      none_aside = c.self.invariant.none_aside;
-      indexed =
-          rw (entries, c.wait.ensures.keys, c.wait.ensures.waiting)
-          (index_added c.args.entry es c.self.inside.names.keys c.self.inside.names.waiting c.self.invariant.in_order
-          (ap is_some missing) c.self.invariant.indexed);
-      summed =
-          c.add.ensures es c.self.invariant.summed
-          ∙ sums_with c.args.entry es missing
-          ∙ ap totals_of (sym entries);
-      room =
-          omega (
-            arith,
-            c.insert.ensures.len,
-            c.insert.ensures.capacity,
-            c.self.invariant.room,
-            c.requires,
-            spare,
-          );
-      room_aside =
-          omega (arith, c.insert.ensures.len, c.self.invariant.room_aside, c.requires, spare);
-      room_for_names = omega (arith, c.wait.ensures.room, c.self.invariant.room_for_names, c.requires, spare);
+      kept = record {
+        in_order = subst IsCatalogue (sym entries) (with_entry_rises c.args.entry es c.self.invariant.kept.in_order);
+        none_aside = c.self.invariant.kept.none_aside;
+        indexed =
+            rw (entries, c.wait.ensures.keys, c.wait.ensures.waiting)
+            (index_added c.args.entry es c.self.inside.names.keys c.self.inside.names.waiting
+            c.self.invariant.kept.in_order (ap is_some missing) c.self.invariant.kept.indexed);
+        summed =
+            c.add.ensures es c.self.invariant.kept.summed
+            ∙ sums_with c.args.entry es missing
+            ∙ ap totals_of (sym entries);
+      };
+      room = record {
+        room =
+            omega (
+              arith,
+              c.insert.ensures.len,
+              c.insert.ensures.capacity,
+              c.self.invariant.room.room,
+              c.requires,
+              spare,
+            );
+        room_aside =
+            omega (arith, c.insert.ensures.len, c.self.invariant.room.room_aside, c.requires, spare);
+        room_for_names = omega (arith, c.wait.ensures.room, c.self.invariant.room.room_for_names, c.requires, spare);
+      };
     }
 
 pub returns-clause-added : goal.returns-clause-added

@@ -12,18 +12,22 @@ invariant_of-self c =
     let es = c.self.inside.entries.items in
     let left = c.remove_all.ensures.items in
     record {
-      in_order = subst IsCatalogue (sym left) (without_all_rises pairs es c.self.invariant.in_order);
-      none_aside = c.self.invariant.none_aside;
-      indexed =
-          subst (λ (xs : List Entry). IsIndexOf xs c.forget.new.names.keys c.forget.new.names.waiting)
-          (ap (λ (xs : List Entry). without_all pairs xs) c.as_slice.ensures ∙ sym left) c.forget.ensures.indexed;
-      summed =
-          c.forget.ensures.summed
-          ∙ ap (λ (xs : List Entry). totals_of (without_all pairs xs)) c.as_slice.ensures
-          ∙ ap totals_of (sym left);
-      room = omega (arith, c.remove_all.ensures.len, c.remove_all.ensures.capacity, c.self.invariant.room);
-      room_aside = omega (arith, c.remove_all.ensures.len, c.self.invariant.room_aside);
-      room_for_names = omega (arith, c.forget.ensures.room, c.self.invariant.room_for_names);
+      kept = record {
+        in_order = subst IsCatalogue (sym left) (without_all_rises pairs es c.self.invariant.kept.in_order);
+        none_aside = c.self.invariant.kept.none_aside;
+        indexed =
+            subst (λ (xs : List Entry). IsIndexOf xs c.forget.new.names.keys c.forget.new.names.waiting)
+            (ap (λ (xs : List Entry). without_all pairs xs) c.as_slice.ensures ∙ sym left) c.forget.ensures.indexed;
+        summed =
+            c.forget.ensures.summed
+            ∙ ap (λ (xs : List Entry). totals_of (without_all pairs xs)) c.as_slice.ensures
+            ∙ ap totals_of (sym left);
+      };
+      room = record {
+        room = omega (arith, c.remove_all.ensures.len, c.remove_all.ensures.capacity, c.self.invariant.room.room);
+        room_aside = omega (arith, c.remove_all.ensures.len, c.self.invariant.room.room_aside);
+        room_for_names = omega (arith, c.forget.ensures.room, c.self.invariant.room.room_for_names);
+      };
     }
 
 pub returns : goal.returns

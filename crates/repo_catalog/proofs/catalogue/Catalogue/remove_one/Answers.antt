@@ -51,28 +51,32 @@ invariant_of-self c =
     ∙ ap (λ (l : EntryList). get_or l.entries c.in-Ok.place x) c.self.view_is)) in
     let of : k ≡ publication_of x = entry_is_of k es x there in
     record {
-      in_order = subst IsCatalogue (sym left) (without_rises k es c.in-Ok.ensures.ordered);
-      none_aside = c.self.invariant.none_aside;
-      indexed =
-          rw (left, c.remove.ensures.waiting)
-          (index_less es (without k es) c.self.inside.names.keys c.remove.new.self.keys c.self.inside.names.waiting
-          (λ q. not (eq_by_cmp key_cmp q (key_of x)))
-          (λ q. is_key-without x es q (ap (λ (p : Pair). entry_of p es) (sym of) ∙ there)
-          ∙ ap (λ (p : Pair). is_key (without p es) q) (sym of))
-          (λ q. c.remove.ensures.keys q
-          ∙ ap (λ (key : Key). not (eq_by_cmp key_cmp q key) && contains key_cmp c.self.inside.names.keys q)
-          c.key_of.ensures)
-          (subst (λ (l : EntryList). IsIndexOf l.entries c.self.inside.names.keys c.self.inside.names.waiting)
-          c.self.view_is c.self.invariant.indexed));
-      summed =
-          c.subtract.ensures (without k es)
-          (c.self.invariant.summed
-          ∙ ap (λ (l : EntryList). totals_of l.entries) c.self.view_is
-          ∙ sums_without k x es c.in-Ok.ensures.ordered there)
-          ∙ ap totals_of (sym left);
-      room = omega (arith, c.remove-2.ensures.len, c.remove-2.ensures.capacity, c.self.invariant.room);
-      room_aside = omega (arith, c.remove-2.ensures.len, c.self.invariant.room_aside);
-      room_for_names = omega (arith, c.remove.ensures.room, c.self.invariant.room_for_names);
+      kept = record {
+        in_order = subst IsCatalogue (sym left) (without_rises k es c.in-Ok.ensures.ordered);
+        none_aside = c.self.invariant.kept.none_aside;
+        indexed =
+            rw (left, c.remove.ensures.waiting)
+            (index_less es (without k es) c.self.inside.names.keys c.remove.new.self.keys c.self.inside.names.waiting
+            (λ q. not (eq_by_cmp key_cmp q (key_of x)))
+            (λ q. is_key-without x es q (ap (λ (p : Pair). entry_of p es) (sym of) ∙ there)
+            ∙ ap (λ (p : Pair). is_key (without p es) q) (sym of))
+            (λ q. c.remove.ensures.keys q
+            ∙ ap (λ (key : Key). not (eq_by_cmp key_cmp q key) && contains key_cmp c.self.inside.names.keys q)
+            c.key_of.ensures)
+            (subst (λ (l : EntryList). IsIndexOf l.entries c.self.inside.names.keys c.self.inside.names.waiting)
+            c.self.view_is c.self.invariant.kept.indexed));
+        summed =
+            c.subtract.ensures (without k es)
+            (c.self.invariant.kept.summed
+            ∙ ap (λ (l : EntryList). totals_of l.entries) c.self.view_is
+            ∙ sums_without k x es c.in-Ok.ensures.ordered there)
+            ∙ ap totals_of (sym left);
+      };
+      room = record {
+        room = omega (arith, c.remove-2.ensures.len, c.remove-2.ensures.capacity, c.self.invariant.room.room);
+        room_aside = omega (arith, c.remove-2.ensures.len, c.self.invariant.room.room_aside);
+        room_for_names = omega (arith, c.remove.ensures.room, c.self.invariant.room.room_for_names);
+      };
     }
 
 pub returns-clause-removed : goal.returns-clause-removed

@@ -7,12 +7,12 @@ use Rattle.repo_catalog.proofs.catalogue.Catalogue.totals.Goals as goal
 
 pub returns-clause-segments : goal.returns-clause-segments
 returns-clause-segments c =
-    ap (λ (s : EntryTotals). s.segments) c.self.invariant.summed
+    ap (λ (s : EntryTotals). s.segments) c.self.invariant.kept.summed
     ∙ ap (λ (l : EntryList). sum_by (λ e. e.segments) l.entries % 2 ^ 64) c.self.view_is
     ∙ mod-eq_of_lt c.requires.segments
 
 pub returns-clause-octets : goal.returns-clause-octets
 returns-clause-octets c =
-    ap (λ (s : EntryTotals). s.octets) c.self.invariant.summed
+    ap (λ (s : EntryTotals). s.octets) c.self.invariant.kept.summed
     ∙ ap (λ (l : EntryList). sum_by (λ e. e.octets) l.entries % 2 ^ 64) c.self.view_is
     ∙ mod-eq_of_lt c.requires.octets
