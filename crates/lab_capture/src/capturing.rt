@@ -1,14 +1,12 @@
-ghost use Rattle.lab_capture.specs.CaptureForm.{capture_form, capture_of, head_once, nothing_captured};
+ghost use Rattle.lab_capture.specs.CaptureForm.{capture_form, head_once, nothing_captured};
 ghost use Rattle.lab_capture.specs.Capturings.{known_as};
 ghost use Rattle.lab_capture.specs.Frames.{frames_text, line_frames};
 ghost use Rattle.lab_capture.specs.Replies.{line_replies};
-ghost use Rattle.lab_lines.specs.Written.{Known, WritesLines};
-ghost use Rattle.lab_text.specs.Outcomes.{HasCause, WritesOutcome};
+ghost use Rattle.lab_lines.specs.Written.{CarriesOut};
 ghost use Rattle.repo_io.specs.Outside.{HasRisen};
 ghost use Rattle.script_lines.specs.Scripts.{reached};
 ghost use Rattle.script_story.specs.Evaluation.{env_by};
-ghost use Rattle.std.specs.Option.{option_map};
-ghost use Rattle.std.specs.Prelude.{◌≡◌, ◌≢◌, ◌++◌, OnOk};
+ghost use Rattle.std.specs.Prelude.{◌≡◌, ◌++◌, OnOk};
 
 use crate::frames::put_frames;
 use crate::known::{KnownBefore, known_before, read};
@@ -34,20 +32,11 @@ pub fn capture<R: Threads + Sync, S: Source, K: Sink, N: Net + Sync, D: Draws>(
     net: &N,
     draws: &D,
 ) -> LabStatus
-    // What was written is the capture of the input, and the status is its status, where source and sink know their
-    // octets. Whatever comes, it is a prefix of that text.
-    ensures writes { WritesOutcome (option_map (capture_of (env_by (D.draw draws.now) (N.passes net.now)))
-        (S.left source.old)) (K.out sink.old) (K.out sink.new) result }
-
-    // The other answers have their causes. Memory may run out at any time.
-    ensures causes { HasCause (option_map (capture_of (env_by (D.draw draws.now) (N.passes net.now)))
-        (S.left source.old)) result (HasRisen (S.faults source.old) (S.faults source.new))
-        (HasRisen (K.faults sink.old) (K.faults sink.new)) }
-    ensures never_usage { result ≢ LabStatus.Usage }
-
-    // It is written line by line, and little is read past the line that stops the script.
-    ensures lines { Known (S.left source.old) (S.left source.new) (WritesLines capture_form
-        (env_by (D.draw draws.now) (N.passes net.now)) nothing_captured (K.out sink.old) (K.out sink.new) result) }
+    // What was written is the capture of the input (`capture_of`), line by line, and the status is its status.
+    ensures { CarriesOut capture_form (env_by (D.draw draws.now) (N.passes net.now)) nothing_captured
+        (S.left source.old) (S.left source.new) (K.out sink.old) (K.out sink.new)
+        (HasRisen (S.faults source.old) (S.faults source.new)) (HasRisen (K.faults sink.old) (K.faults sink.new))
+        result }
 {
     run_form(
         rt,

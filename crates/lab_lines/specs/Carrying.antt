@@ -6,16 +6,18 @@ use Rattle.std.specs.List.{concat, filter}
 use Rattle.std.specs.Io.KnownBytes.{IsAtEnd}
 use Rattle.repo_io.specs.declared.failed.Failed.{Failed}
 use Rattle.repo_io.specs.Lines.{IsWhole, lines}
-use Rattle.repo_io.specs.Outside.{GainsText, GainsPrefix}
+use Rattle.repo_io.specs.Outside.{GainsText, GainsPrefix, HasRisen}
 use Rattle.script_lang.specs.Lines.{ends_with}
 use Rattle.script_report.specs.Refusals.{refusal_number}
 use Rattle.script_story.specs.declared.ending.Ending.{Ending}
 use Rattle.script_story.specs.declared.ending.Ending.TheVariants as an_ending
 use Rattle.script_story.specs.Evaluation.{RunEnvironment}
 use Rattle.script_story.specs.ScriptRun.{Reached}
+use Rattle.script_lines.specs.declared.script.Script.{Script}
 use Rattle.script_lines.specs.declared.error.LineError.{LineError}
 use Rattle.script_lines.specs.declared.error.LineError.TheVariants as error
 use Rattle.script_lines.specs.Reading.{IsTooLong, LineIsBegun}
+use Rattle.script_lines.specs.Scripts.{IsScript}
 use Rattle.script_lines.specs.LineErrors.{line_error_text}
 use Rattle.lab_text.specs.declared.status.LabStatus.{LabStatus}
 use Rattle.lab_text.specs.declared.status.LabStatus.TheVariants.{Done, Usage, Refused, ReadFault, WriteFault, NoMemory}
@@ -26,13 +28,24 @@ use Rattle.lab_lines.specs.declared.totals.Totals.{Totals}
 use Rattle.lab_lines.specs.declared.over.Over.{Over}
 use Rattle.lab_lines.specs.declared.over.Over.TheVariants.{Stopped, Faulted}
 use Rattle.lab_lines.specs.Folding.{FormOf, Lined, Passed, Ran, after_notes, after_stop, form_outcome, lined}
-use Rattle.lab_lines.specs.Folding.{most_octets}
+use Rattle.lab_lines.specs.Folding.{most_lines, most_octets}
 use Rattle.lab_lines.specs.Folding.{ran_from, ran_over, with_text}
 use Rattle.lab_lines.specs.Written.{WritesLines, can_be_evaluated}
 
 -- So many lines and octets were passed, and the script's lines among them came to this.
 abbrev pub passed : Totals → Reached → Passed
 passed totals reached = record { lines = totals.lines; octets = totals.octets; reached = reached }
+
+-- Another line can follow: the script is one, and no more lines and octets were passed than an input may have.
+pub record CanGoOn (script : Script) (totals : Totals) : Type 0 where
+  pub is : IsScript script
+  pub lines : totals.lines ≤ most_lines
+  pub octets : totals.octets ≤ most_octets
+
+-- A sink's count of faults never falls, and where writing failed it rose.
+pub record CountsFaults (WriteFailed : Type 0) (old new : ℕ) : Type 0 where
+  pub risen : WriteFailed → HasRisen old new
+  pub kept : old ≤ new
 
 -- A form ran so.
 abbrev pub ran : {M : Type 0} → List ℕ → M → Ending → ℕ → Ran M

@@ -1,16 +1,17 @@
 -- What was taken of an input when a form of the lab ended, and what was written by then.
-use Rattle.std.specs.Prelude.{◌≡◌, ◌≤◌, ⊤, ℕ, ◌+◌, ◌-◌, Bool, false, ◌||◌, List, [], length, take, Option, Some, None}
-use Rattle.std.specs.Prelude.{nat_lt}
+use Rattle.std.specs.Prelude.{◌≡◌, ◌≢◌, ◌≤◌, ⊤, ℕ, ◌+◌, ◌-◌, Bool, false, ◌||◌, List, [], length, take, Option, Some}
+use Rattle.std.specs.Prelude.{None, nat_lt}
 use Rattle.std.specs.List.{concat, filter}
+use Rattle.std.specs.Option.{option_map}
 use Rattle.script_lang.specs.Limits.{line_octets}
 use Rattle.script_story.specs.declared.ending.Ending.TheVariants as ending
 use Rattle.script_story.specs.Evaluation.{RunEnvironment}
 use Rattle.repo_io.specs.Lines.{has_feed, lines}
 use Rattle.repo_io.specs.Outside.{GainsText}
 use Rattle.lab_text.specs.declared.status.LabStatus.{LabStatus}
-use Rattle.lab_text.specs.declared.status.LabStatus.TheVariants.{ReadFault}
-use Rattle.lab_text.specs.Outcomes.{IsEnd}
-use Rattle.lab_lines.specs.Folding.{FormOf, ran_over}
+use Rattle.lab_text.specs.declared.status.LabStatus.TheVariants.{ReadFault, Usage}
+use Rattle.lab_text.specs.Outcomes.{HasCause, IsEnd, WritesOutcome}
+use Rattle.lab_lines.specs.Folding.{FormOf, form_outcome, ran_over}
 
 -- What holds of an input and of what is left of it, where both are known.
 abbrev pub Known : Option (List ℕ) → Option (List ℕ) → (List ℕ → List ℕ → Type 0) → Type 0
@@ -49,3 +50,16 @@ pub record WritesLines {M : Type 0} (f : FormOf M) (env : RunEnvironment) (form 
   -- Unless the form reads on, at most 65,536 octets are taken past the end of the line that stops the script.
   pub bounded : IsEnd status → f.reads_on ≡ false
       → IsTakenNear (ran_over f env form (lines input)).read input rest
+
+-- A form carried out the script of an input, of which this is left: what was written, what was answered, and when.
+pub record CarriesOut {M : Type 0} (f : FormOf M) (env : RunEnvironment) (form : M)
+    (input rest old new : Option (List ℕ)) (SourceFailed SinkFailed : Type 0) (status : LabStatus) : Type 0 where
+  -- What was written is what the form makes of the input, and the status is its status, where source and sink know
+  -- their octets. Whatever comes, it is a prefix of that text.
+  pub writes : WritesOutcome (option_map (form_outcome f env form) input) old new status
+  -- The other answers have their causes. Memory may run out at any time.
+  pub causes : HasCause (option_map (form_outcome f env form) input) status SourceFailed SinkFailed
+  pub never_usage : status ≢ Usage
+  -- The text of a line is written before the next line is looked for, and little is read past the line that stops the
+  -- script.
+  pub lines : Known input rest (WritesLines f env form old new status)

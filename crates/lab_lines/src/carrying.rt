@@ -1,11 +1,11 @@
-ghost use Rattle.std.specs.Prelude.{◌≡◌, ◌≤◌, ◌+◌, None, Err, length, IfErr, IfOk, OnOk, option_map};
-ghost use Rattle.repo_io.specs.Outside.{HasRisen};
+ghost use Rattle.std.specs.Prelude.{◌≡◌, ◌≤◌, None, Err, length, IfErr, IfOk, OnOk, option_map};
 ghost use Rattle.script_story.specs.Evaluation.{env_by};
-ghost use Rattle.script_lines.specs.Scripts.{IsScript, reached};
+ghost use Rattle.script_lines.specs.Scripts.{reached};
 ghost use Rattle.script_lines.specs.LineErrors.{line_error_text};
 ghost use Rattle.lab_text.specs.Transcripts.{shown_text};
-ghost use Rattle.lab_lines.specs.Carrying.{Ends, IsEndingOf, IsOver, IsSettled, IsStopWritten, Passes, Writes, passed};
-ghost use Rattle.lab_lines.specs.Folding.{lined, most_lines, most_octets};
+ghost use Rattle.lab_lines.specs.Carrying.{CanGoOn, CountsFaults, Ends, IsEndingOf, IsOver, IsSettled, IsStopWritten};
+ghost use Rattle.lab_lines.specs.Carrying.{Passes, Writes, passed};
+ghost use Rattle.lab_lines.specs.Folding.{lined};
 
 use crate::form::Form;
 use crate::over::Over;
@@ -47,22 +47,17 @@ pub(crate) fn pass_line<R: Threads + Sync, F: Form, K: Sink, N: Net + Sync, D: D
     net: &N,
     draws: &D,
 ) -> Result<Script, Over>
-    requires is { IsScript script }
-    requires lines { totals.old.lines ≤ most_lines }
-    requires octets { totals.old.octets ≤ most_octets }
+    requires goes_on { CanGoOn script totals.old }
     requires short { length line.now ≤ 65536 }
     ensures passes { IfOk result (λ next. Passes F.form (env_by (D.draw draws.now) (N.passes net.now))
         (passed totals.old (reached script)) form.old line.now (passed totals.new (reached next)) form.new
         (K.out sink.old) (K.out sink.new)) }
-    ensures is { IfOk result IsScript }
-    ensures lines { IfOk result (λ _. totals.new.lines ≤ most_lines) }
-    ensures octets { IfOk result (λ _. totals.new.octets ≤ most_octets) }
+    ensures goes_on { IfOk result (λ next. CanGoOn next totals.new) }
     ensures over { IfErr result (IsOver F.form (env_by (D.draw draws.now) (N.passes net.now))
         (passed totals.old (reached script)) form.old line.now totals.new form.new
         (K.out sink.old) (K.out sink.new)) }
-    ensures risen { result ≡ Err (Over.Faulted LabStatus.WriteFault)
-        → HasRisen (K.faults sink.old) (K.faults sink.new) }
-    ensures faults { K.faults sink.old ≤ K.faults sink.new }
+    ensures faults { CountsFaults (result ≡ Err (Over.Faulted LabStatus.WriteFault)) (K.faults sink.old)
+        (K.faults sink.new) }
 {
     let number = script.next_line();
     let fits = totals.fits(line);
@@ -108,9 +103,7 @@ fn stop_beyond<F: Form, K: Sink>(
     ensures stops { IsStopWritten F.form number line.now (LineError.Refused Refusal.Limit)
         (F.form.before form.old (reached script.now).state (shown_text line.now)) form.new
         (K.out sink.old) (K.out sink.new) result }
-    ensures risen { result ≡ Over.Faulted LabStatus.WriteFault
-        → HasRisen (K.faults sink.old) (K.faults sink.new) }
-    ensures faults { K.faults sink.old ≤ K.faults sink.new }
+    ensures faults { CountsFaults (result ≡ Over.Faulted LabStatus.WriteFault) (K.faults sink.old) (K.faults sink.new) }
 {
     let Ok(()) = look(script, line, form) else {
         return Over::Faulted(LabStatus::NoMemory);
@@ -132,9 +125,7 @@ fn stop_at<F: Form, K: Sink>(
         result }
     ensures no_memory { error ≡ LineError.NoMemory → (result ≡ Over.Faulted LabStatus.NoMemory)
         × (K.out sink.new ≡ K.out sink.old) }
-    ensures risen { result ≡ Over.Faulted LabStatus.WriteFault
-        → HasRisen (K.faults sink.old) (K.faults sink.new) }
-    ensures faults { K.faults sink.old ≤ K.faults sink.new }
+    ensures faults { CountsFaults (result ≡ Over.Faulted LabStatus.WriteFault) (K.faults sink.old) (K.faults sink.new) }
 {
     let Ok(ending) = put_ending(&mut page.report, number, error) else {
         return Over::Faulted(LabStatus::NoMemory);
@@ -174,8 +165,7 @@ fn write_line<F: Form, K: Sink>(
         (option_map (λ script. (reached script.now).state) after.entry))) (K.out sink.old) (K.out sink.new) result }
     ensures kept { OnOk result (form.new ≡ F.form.line form.old (lined number (shown_text line.now)
         page.old.report.items (option_map (λ script. (reached script.now).state) after.entry))) }
-    ensures risen { result ≡ Err LabStatus.WriteFault → HasRisen (K.faults sink.old) (K.faults sink.new) }
-    ensures faults { K.faults sink.old ≤ K.faults sink.new }
+    ensures faults { CountsFaults (result ≡ Err LabStatus.WriteFault) (K.faults sink.old) (K.faults sink.new) }
 {
     page.text.clear();
     match form.line(
@@ -193,8 +183,7 @@ fn write_line<F: Form, K: Sink>(
 // Writes a text.
 fn write_text<K: Sink>(text: &[u8], sink: &mut K) -> Result<(), LabStatus>
     ensures writes { Writes text.now (K.out sink.old) (K.out sink.new) result }
-    ensures risen { result ≡ Err LabStatus.WriteFault → HasRisen (K.faults sink.old) (K.faults sink.new) }
-    ensures faults { K.faults sink.old ≤ K.faults sink.new }
+    ensures faults { CountsFaults (result ≡ Err LabStatus.WriteFault) (K.faults sink.old) (K.faults sink.new) }
 {
     match write_whole(sink, text) {
         Ok(()) => Ok(()),
@@ -211,8 +200,7 @@ pub(crate) fn end_form<F: Form, K: Sink>(
 ) -> LabStatus
     ensures ends { Ends (F.form.end form.old ending) (K.out sink.old) (K.out sink.new) result }
     ensures settled { IsSettled result }
-    ensures risen { result ≡ LabStatus.WriteFault → HasRisen (K.faults sink.old) (K.faults sink.new) }
-    ensures faults { K.faults sink.old ≤ K.faults sink.new }
+    ensures faults { CountsFaults (result ≡ LabStatus.WriteFault) (K.faults sink.old) (K.faults sink.new) }
 {
     page.text.clear();
     let Ok(status) = form.end(ending, &mut page.text) else {

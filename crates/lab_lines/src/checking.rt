@@ -1,9 +1,8 @@
-ghost use Rattle.std.specs.Prelude.{◌≡◌, ◌≢◌, ◌++◌, OnOk};
-ghost use Rattle.std.specs.Option.{option_map};
+ghost use Rattle.std.specs.Prelude.{◌≡◌, ◌++◌, OnOk};
 ghost use Rattle.repo_io.specs.Outside.{HasRisen};
 ghost use Rattle.script_story.specs.Evaluation.{env_by};
-ghost use Rattle.lab_text.specs.Outcomes.{HasCause, WritesOutcome};
-ghost use Rattle.lab_lines.specs.Check.{check_of, counted, last_text, nothing_checked};
+ghost use Rattle.lab_lines.specs.Check.{check_form, counted, last_text, nothing_checked};
+ghost use Rattle.lab_lines.specs.Written.{CarriesOut};
 
 use crate::form::Form;
 use crate::reading::run_form;
@@ -50,16 +49,10 @@ pub fn check<R: Threads + Sync, S: Source, K: Sink, N: Net + Sync, D: Draws>(
     net: &N,
     draws: &D,
 ) -> LabStatus
-    // What was written is the check of the input, and the status is its status, where source and sink know their
-    // octets. Whatever comes, it is a prefix of that text.
-    ensures writes { WritesOutcome (option_map (check_of (env_by (D.draw draws.now) (N.passes net.now)))
-        (S.left source.old)) (K.out sink.old) (K.out sink.new) result }
-
-    // The other answers have their causes. Memory may run out at any time.
-    ensures causes { HasCause (option_map (check_of (env_by (D.draw draws.now) (N.passes net.now)))
-        (S.left source.old)) result (HasRisen (S.faults source.old) (S.faults source.new))
-        (HasRisen (K.faults sink.old) (K.faults sink.new)) }
-    ensures never_usage { result ≢ LabStatus.Usage }
+    // What was written is the check of the input (`check_of`), line by line, and the status is its status.
+    ensures { CarriesOut check_form (env_by (D.draw draws.now) (N.passes net.now)) nothing_checked (S.left source.old)
+        (S.left source.new) (K.out sink.old) (K.out sink.new) (HasRisen (S.faults source.old) (S.faults source.new))
+        (HasRisen (K.faults sink.old) (K.faults sink.new)) result }
 {
     run_form(
         rt,

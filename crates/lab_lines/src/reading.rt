@@ -1,15 +1,13 @@
-ghost use Rattle.std.specs.Prelude.{◌≡◌, ◌≢◌, ◌≤◌, []};
-ghost use Rattle.std.specs.Option.{option_map};
+ghost use Rattle.std.specs.Prelude.{◌≡◌, ◌≢◌, []};
 ghost use Rattle.repo_io.specs.Lines.{lines};
 ghost use Rattle.repo_io.specs.Outside.{HasRisen};
 ghost use Rattle.script_story.specs.Evaluation.{env_by};
 ghost use Rattle.script_story.specs.ScriptRun.{nothing_reached};
 ghost use Rattle.script_lines.specs.Reading.{LineIsBegun};
 ghost use Rattle.script_lines.specs.Scripts.{IsScript, reached};
-ghost use Rattle.lab_text.specs.Outcomes.{HasCause, WritesOutcome};
-ghost use Rattle.lab_lines.specs.Carrying.{Ends, IsSettled, RunEnds, passed};
-ghost use Rattle.lab_lines.specs.Folding.{form_outcome, most_lines, most_octets, outcome_of, ran_from};
-ghost use Rattle.lab_lines.specs.Written.{Known, WritesLines};
+ghost use Rattle.lab_lines.specs.Carrying.{CanGoOn, Ends, IsSettled, RunEnds, passed};
+ghost use Rattle.lab_lines.specs.Folding.{outcome_of, ran_from};
+ghost use Rattle.lab_lines.specs.Written.{CarriesOut, Known};
 
 use crate::carrying::{Page, end_form, pass_line};
 use crate::form::Form;
@@ -35,21 +33,10 @@ pub fn run_form<R: Threads + Sync, F: Form, S: Source, K: Sink, N: Net + Sync, D
     net: &N,
     draws: &D,
 ) -> LabStatus
-    // What was written is what the form makes of the script, and the status is its status, where source and sink know
-    // their octets. Whatever comes, it is a prefix of that text.
-    ensures writes { WritesOutcome (option_map (form_outcome F.form (env_by (D.draw draws.now) (N.passes net.now))
-        form.old) (S.left source.old)) (K.out sink.old) (K.out sink.new) result }
-
-    // The other answers have their causes. Memory may run out at any time.
-    ensures causes { HasCause (option_map (form_outcome F.form (env_by (D.draw draws.now) (N.passes net.now))
-        form.old) (S.left source.old)) result (HasRisen (S.faults source.old) (S.faults source.new))
-        (HasRisen (K.faults sink.old) (K.faults sink.new)) }
-    ensures never_usage { result ≢ LabStatus.Usage }
-
-    // The text of a line is written before the next line is looked for, and little is read past the line that stops the
-    // script.
-    ensures lines { Known (S.left source.old) (S.left source.new) (WritesLines F.form
-        (env_by (D.draw draws.now) (N.passes net.now)) form.old (K.out sink.old) (K.out sink.new) result) }
+    // What was written is what the form makes of the script, line by line, and the status is its status.
+    ensures { CarriesOut F.form (env_by (D.draw draws.now) (N.passes net.now)) form.old (S.left source.old)
+        (S.left source.new) (K.out sink.old) (K.out sink.new) (HasRisen (S.faults source.old) (S.faults source.new))
+        (HasRisen (K.faults sink.old) (K.faults sink.new)) result }
 {
     let Ok(mut reader) = LineReader::new(alloc) else {
         return LabStatus::NoMemory;
@@ -135,10 +122,8 @@ fn run_last<R: Threads + Sync, F: Form, K: Sink, N: Net + Sync, D: Draws>(
     net: &N,
     draws: &D,
 ) -> LabStatus
-    requires is { IsScript script }
+    requires goes_on { CanGoOn script totals }
     requires last { LineIsBegun line.now }
-    requires lines { totals.lines ≤ most_lines }
-    requires octets { totals.octets ≤ most_octets }
     ensures ends { Ends (outcome_of F.form (ran_from F.form (env_by (D.draw draws.now) (N.passes net.now))
         (passed totals (reached script)) form.old (lines line.now))) (K.out sink.old) (K.out sink.new) result }
     ensures settled { IsSettled result }

@@ -1,10 +1,7 @@
-ghost use Rattle.std.specs.Prelude.{◌≡◌, ◌≢◌};
-ghost use Rattle.std.specs.Option.{option_map};
 ghost use Rattle.repo_io.specs.Outside.{HasRisen};
 ghost use Rattle.script_story.specs.Evaluation.{env_by};
-ghost use Rattle.lab_text.specs.Outcomes.{HasCause, WritesOutcome};
-ghost use Rattle.lab_lines.specs.Transcript.{transcript_form, transcript_of};
-ghost use Rattle.lab_lines.specs.Written.{Known, WritesLines};
+ghost use Rattle.lab_lines.specs.Transcript.{transcript_form};
+ghost use Rattle.lab_lines.specs.Written.{CarriesOut};
 
 use crate::form::Form;
 use crate::reading::run_form;
@@ -37,20 +34,10 @@ pub fn transcript<R: Threads + Sync, S: Source, K: Sink, N: Net + Sync, D: Draws
     net: &N,
     draws: &D,
 ) -> LabStatus
-    // What was written is the transcript of the input, and the status is its status, where source and sink know their
-    // octets. Whatever comes, it is a prefix of that text.
-    ensures writes { WritesOutcome (option_map (transcript_of (env_by (D.draw draws.now) (N.passes net.now)))
-        (S.left source.old)) (K.out sink.old) (K.out sink.new) result }
-
-    // The other answers have their causes. Memory may run out at any time.
-    ensures causes { HasCause (option_map (transcript_of (env_by (D.draw draws.now) (N.passes net.now)))
-        (S.left source.old)) result (HasRisen (S.faults source.old) (S.faults source.new))
-        (HasRisen (K.faults sink.old) (K.faults sink.new)) }
-    ensures never_usage { result ≢ LabStatus.Usage }
-
-    // It is written line by line, and little is read past the line that stops the script.
-    ensures lines { Known (S.left source.old) (S.left source.new) (WritesLines transcript_form
-        (env_by (D.draw draws.now) (N.passes net.now)) (tt {0}) (K.out sink.old) (K.out sink.new) result) }
+    // What was written is the transcript of the input (`transcript_of`), line by line, and the status is its status.
+    ensures { CarriesOut transcript_form (env_by (D.draw draws.now) (N.passes net.now)) (tt {0}) (S.left source.old)
+        (S.left source.new) (K.out sink.old) (K.out sink.new) (HasRisen (S.faults source.old) (S.faults source.new))
+        (HasRisen (K.faults sink.old) (K.faults sink.new)) result }
 {
     run_form(rt, alloc, &mut Transcribing, source, sink, net, draws)
 }

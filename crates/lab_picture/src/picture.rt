@@ -1,11 +1,8 @@
-ghost use Rattle.std.specs.Prelude.{◌≡◌, ◌≢◌};
-ghost use Rattle.std.specs.Option.{option_map};
 ghost use Rattle.repo_io.specs.Outside.{HasRisen};
 ghost use Rattle.script_story.specs.Evaluation.{env_by};
-ghost use Rattle.lab_text.specs.Outcomes.{HasCause, WritesOutcome};
-ghost use Rattle.lab_lines.specs.Written.{Known, WritesLines};
+ghost use Rattle.lab_lines.specs.Written.{CarriesOut};
 ghost use Rattle.lab_picture.specs.Drawn.{nothing_drawn};
-ghost use Rattle.lab_picture.specs.Pictures.{draw_form, draw_of};
+ghost use Rattle.lab_picture.specs.Pictures.{draw_form};
 
 use crate::drawing::Drawing;
 use bench_net::{Draws, Net};
@@ -27,20 +24,11 @@ pub fn draw<R: Threads + Sync, S: Source, K: Sink, N: Net + Sync, D: Draws>(
     net: &N,
     draws: &D,
 ) -> LabStatus
-    // What was written is the picture of the input, and the status is its status, where source and sink know their
-    // octets. Whatever comes, it is a prefix of that text.
-    ensures writes { WritesOutcome (option_map (draw_of (env_by (D.draw draws.now) (N.passes net.now)))
-        (S.left source.old)) (K.out sink.old) (K.out sink.new) result }
-
-    // The other answers have their causes. Memory may run out at any time.
-    ensures causes { HasCause (option_map (draw_of (env_by (D.draw draws.now) (N.passes net.now)))
-        (S.left source.old)) result (HasRisen (S.faults source.old) (S.faults source.new))
-        (HasRisen (K.faults sink.old) (K.faults sink.new)) }
-    ensures never_usage { result ≢ LabStatus.Usage }
-
-    // Nothing is written before the end of the script, and little is read past it.
-    ensures lines { Known (S.left source.old) (S.left source.new) (WritesLines draw_form
-        (env_by (D.draw draws.now) (N.passes net.now)) nothing_drawn (K.out sink.old) (K.out sink.new) result) }
+    // What was written is the picture of the input (`draw_of`), all of it at the end of the script, and the status is
+    // its status.
+    ensures { CarriesOut draw_form (env_by (D.draw draws.now) (N.passes net.now)) nothing_drawn (S.left source.old)
+        (S.left source.new) (K.out sink.old) (K.out sink.new) (HasRisen (S.faults source.old) (S.faults source.new))
+        (HasRisen (K.faults sink.old) (K.faults sink.new)) result }
 {
     run_form(
         rt,

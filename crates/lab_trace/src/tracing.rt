@@ -1,11 +1,9 @@
-ghost use Rattle.std.specs.Prelude.{◌≡◌, ◌≢◌, ◌++◌, OnOk, Some};
-ghost use Rattle.std.specs.Option.{option_map};
+ghost use Rattle.std.specs.Prelude.{◌≡◌, ◌++◌, OnOk, Some};
 ghost use Rattle.repo_io.specs.Outside.{HasRisen};
 ghost use Rattle.script_story.specs.Evaluation.{env_by};
 ghost use Rattle.script_lines.specs.Scripts.{reached};
-ghost use Rattle.lab_text.specs.Outcomes.{HasCause, WritesOutcome};
-ghost use Rattle.lab_lines.specs.Written.{Known, WritesLines};
-ghost use Rattle.lab_trace.specs.Trace.{nothing_noted, state_noted, state_notes, trace_form, trace_of};
+ghost use Rattle.lab_lines.specs.Written.{CarriesOut};
+ghost use Rattle.lab_trace.specs.Trace.{nothing_noted, state_noted, state_notes, trace_form};
 
 use crate::noting::{note_members, note_mirrors};
 use crate::values::Values;
@@ -46,20 +44,10 @@ pub fn trace<R: Threads + Sync, S: Source, K: Sink, N: Net + Sync, D: Draws>(
     net: &N,
     draws: &D,
 ) -> LabStatus
-    // What was written is the trace of the input, and the status is its status, where source and sink know their
-    // octets. Whatever comes, it is a prefix of that text.
-    ensures writes { WritesOutcome (option_map (trace_of (env_by (D.draw draws.now) (N.passes net.now)))
-        (S.left source.old)) (K.out sink.old) (K.out sink.new) result }
-
-    // The other answers have their causes. Memory may run out at any time.
-    ensures causes { HasCause (option_map (trace_of (env_by (D.draw draws.now) (N.passes net.now)))
-        (S.left source.old)) result (HasRisen (S.faults source.old) (S.faults source.new))
-        (HasRisen (K.faults sink.old) (K.faults sink.new)) }
-    ensures never_usage { result ≢ LabStatus.Usage }
-
-    // It is written line by line, and little is read past the line that stops the script.
-    ensures lines { Known (S.left source.old) (S.left source.new) (WritesLines trace_form
-        (env_by (D.draw draws.now) (N.passes net.now)) nothing_noted (K.out sink.old) (K.out sink.new) result) }
+    // What was written is the trace of the input (`trace_of`), line by line, and the status is its status.
+    ensures { CarriesOut trace_form (env_by (D.draw draws.now) (N.passes net.now)) nothing_noted (S.left source.old)
+        (S.left source.new) (K.out sink.old) (K.out sink.new) (HasRisen (S.faults source.old) (S.faults source.new))
+        (HasRisen (K.faults sink.old) (K.faults sink.new)) result }
 {
     run_form(
         rt,

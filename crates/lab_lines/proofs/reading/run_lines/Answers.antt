@@ -89,11 +89,9 @@ loop-count-preserved g c =
       so_far = subst Q (sym c.pass.ensures)
           (known_line f env begun out held p m mid (g.K.Sink.out c.pass_line.new.sink) before now count q n h passes
           so_far);
-      is = c.in-Ok.ensures.is;
-      lines = c.in-Ok.ensures.lines;
-      octets = c.in-Ok.ensures.octets;
+      goes_on = c.in-Ok.ensures.goes_on;
       source = omega (arith, c.loop-count.invariant.source, c.in-Ok-Line.ensures.faults);
-      sink = omega (arith, c.loop-count.invariant.sink, c.pass_line.ensures.faults);
+      sink = omega (arith, c.loop-count.invariant.sink, c.pass_line.ensures.faults.kept);
     }
 
 pub returns-in-Ok-Last-clause-runs : goal.returns-in-Ok-Last-clause-runs
