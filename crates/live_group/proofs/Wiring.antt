@@ -1,5 +1,5 @@
 -- The actors of one member after the other.
-use Rattle.std.proofs.Common.{◌≡◌, ℕ, zero, suc, ◌+◌, ◌<◌, List, [], ◌∷◌, ◌++◌}
+use Rattle.std.proofs.Common.{◌≡◌, ℕ, zero, suc, ◌+◌, ◌<◌, ◌≤◌, List, [], ◌∷◌, ◌++◌}
 use Rattle.std.proofs.Common.{map, length, drop, get_or, sym}
 use Rattle.std.proofs.Common.{ap, ◌∙◌, subst, arith, append_assoc, drop-cons, add-one}
 use Rattle.std.specs.List.{All}
@@ -12,7 +12,8 @@ use Rattle.live_group.specs.declared.actor_job.Job.TheVariants.{Publish, First, 
 use Rattle.live_group.specs.Senders.{SenderView, ReceiverView, OpenedView, HavePorts, HaveCapacity, inbox_capacity}
 use Rattle.live_actors.specs.declared.actor.Actor.{Actor}
 use Rattle.live_actors.specs.declared.actor.Actor.TheVariants as actor
-use Rattle.live_group.specs.Jobs.{member_of, actor_of, actors_below, IsWired, IsActorBelow, HasSenders}
+use Rattle.live_group.specs.Jobs.{member_of, actor_of, actors_below, IsWired, IsActorBelow, HasSenders, CanBeDone}
+use Rattle.live_group.specs.Jobs.{AreJobs}
 use Rattle.live_group.proofs.Dealing.{inboxes_of, inboxes_of_lines, inboxes_of_ears}
 
 below : (n : ℕ) → All (λ (a : Actor). member_of a < n) (actors_below n)
@@ -109,7 +110,7 @@ module _ {L : Type 0} where
       omega (arith, have)
 
   -- each actor is one of these members'
-  pub actors_there : (members : ℕ) (jobs : List (Job L)) → map actor_of jobs ≡ actors_below members
+  actors_there : (members : ℕ) (jobs : List (Job L)) → map actor_of jobs ≡ actors_below members
       → All (IsActorBelow members) jobs
   actors_there members jobs same k job less =
       let P : Actor → Type 0 = λ a. member_of a < members in
@@ -120,7 +121,7 @@ module _ {L : Type 0} where
       (below members k (actor_of job) (let long = ap (λ (those : List Actor). length those) same in omega arith))
 
   -- the first actor of each has a line to each inbox
-  pub lines_there : (members : ℕ) (inboxes : List InboxView) (jobs : List (Job L)) → length inboxes ≡ members
+  lines_there : (members : ℕ) (inboxes : List InboxView) (jobs : List (Job L)) → length inboxes ≡ members
       → All (IsWired inboxes) jobs → All (HasSenders members) jobs
   lines_there members inboxes jobs wide wired = All-weaker (IsWired inboxes) (HasSenders members) has jobs wired where
     has : (job : Job L) → IsWired inboxes job → HasSenders members job
@@ -129,3 +130,17 @@ module _ {L : Type 0} where
         omega (arith, wide, long, length-map publisher.senders.items (λ (l : SenderView). l.inbox))
     has (First member) is = tt
     has (Second member) is = tt
+
+  -- so each job can be done, where each member has a seat
+  pub jobs_there : (members seats count : ℕ) → members ≡ seats → seats ≡ count → seats ≤ 16 → (jobs : List (Job L))
+      → AreJobs members jobs → All (CanBeDone seats count) jobs
+  jobs_there members seats count same all few jobs are k job less = record {
+    members = all;
+    few = few;
+    actor =
+        subst (λ (n : ℕ). IsActorBelow n (get_or jobs k job)) same
+        (actors_there members jobs are.actors k job less);
+    senders =
+        subst (λ (n : ℕ). HasSenders n (get_or jobs k job)) same
+        (lines_there members are.inboxes jobs are.width are.wired k job less);
+  }

@@ -16,6 +16,12 @@ HasBegun l = l.journal ≡ []
 abbrev pub tickets_each : ℕ → ℕ
 tickets_each turns = turns * 2 + 1
 
+-- The tokens of a run: they are the ledger's, four parts for each of so many members, and one more.
+pub record AreTokens (tokens count named size members : ℕ) : Type 0 where
+  pub name : tokens ≡ named
+  pub parts : count ≡ size
+  pub enough : count ≡ members * 4 + 1
+
 -- Under a lock lies a member with so many claims and last looks still to come, and so many tickets spent. As long as
 -- its journal has room, the claims of each fetcher in it and those still to come are its turns; and once there was the
 -- last look, nothing is to be published.

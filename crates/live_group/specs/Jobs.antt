@@ -1,5 +1,5 @@
 -- The actors of a run.
-use Rattle.std.specs.Prelude.{ℕ, zero, suc, ◌≡◌, ◌<◌, List, [], ◌∷◌, ◌++◌, map, length, sum_by, slice_index_or}
+use Rattle.std.specs.Prelude.{ℕ, zero, suc, ◌≡◌, ◌<◌, ◌≤◌, List, [], ◌∷◌, ◌++◌, map, length, sum_by, slice_index_or}
 use Rattle.std.specs.List.{All}
 use Rattle.live_inbox.specs.Ends.{InboxView}
 use Rattle.live_actors.specs.declared.actor.Actor.{Actor}
@@ -39,6 +39,14 @@ module _ {L : Type 0} where
   HasSenders senders (Publish publisher) = senders ≡ length publisher.senders.items
   HasSenders senders (First member) = Unit {0}
   HasSenders senders (Second member) = Unit {0}
+
+  -- A job can be done over so many seats in a group of so many members. Each member has a seat, and there are sixteen at
+  -- most. The job is that of an actor of one of them. Where it publishes it has a line to each.
+  pub record CanBeDone (seats count : ℕ) (job : Job L) : Type 0 where
+    pub members : seats ≡ count
+    pub few : seats ≤ 16
+    pub actor : IsActorBelow seats job
+    pub senders : HasSenders seats job
 
 -- Three actors for each of so many members, in order.
 abbrev pub actors_below : ℕ → List Actor

@@ -1,5 +1,5 @@
-ghost use Rattle.std.specs.Prelude.{◌≡◌, ◌≤◌, All, length, vec_len, IfOk};
-ghost use Rattle.live_group.specs.Jobs.{IsActorBelow, HasSenders};
+ghost use Rattle.std.specs.Prelude.{◌≡◌, All, length, vec_len, IfOk};
+ghost use Rattle.live_group.specs.Jobs.{CanBeDone};
 
 use crate::gate::Gate;
 use crate::handle::Handle;
@@ -23,10 +23,7 @@ pub fn act_all<L: Run + Send + Sync, R: Threads + Wait + Sync, G: Gate + Sync>(
     jobs: Vec<TicketedActor<L>>,
 ) -> Result<Vec<Done<L>>, AllocError>
     requires group { g.now ≡ L.meaning.group }
-    requires members { length seats.now ≡ length L.meaning.lists }
-    requires few { length seats.now ≤ 16 }
-    requires jobs { All (λ t. IsActorBelow (length seats.now) t.job) jobs.items }
-    requires senders { All (λ t. HasSenders (length seats.now) t.job) jobs.items }
+    requires jobs { All (λ t. CanBeDone (length seats.now) (length L.meaning.lists) t.job) jobs.items }
     ensures { IfOk result (λ done. vec_len done ≡ vec_len jobs) }
 {
     let ends = thread::map_vec(
@@ -34,10 +31,7 @@ pub fn act_all<L: Run + Send + Sync, R: Threads + Wait + Sync, G: Gate + Sync>(
         jobs,
         &|job: TicketedActor<L>| -> Result<Done<L>, AllocError>
             requires group { g.now ≡ L.meaning.group }
-            requires members { length seats.now ≡ length L.meaning.lists }
-            requires few { length seats.now ≤ 16 }
-            requires job { IsActorBelow (length seats.now) job.job }
-            requires senders { HasSenders (length seats.now) job.job }
+            requires job { CanBeDone (length seats.now) (length L.meaning.lists) job.job }
         { act_one(rt, alloc, g, seats, gate, job) },
     )?;
     let mut done = Vec::with_capacity(alloc, ends.len())?;
@@ -57,10 +51,7 @@ fn act_one<L: Run, R: Wait, G: Gate>(
     ticketed: TicketedActor<L>,
 ) -> Result<Done<L>, AllocError>
     requires group { g.now ≡ L.meaning.group }
-    requires members { length seats.now ≡ length L.meaning.lists }
-    requires few { length seats.now ≤ 16 }
-    requires job { IsActorBelow (length seats.now) ticketed.job }
-    requires senders { HasSenders (length seats.now) ticketed.job }
+    requires job { CanBeDone (length seats.now) (length L.meaning.lists) ticketed.job }
 {
     let TicketedActor {
         job,

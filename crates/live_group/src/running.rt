@@ -2,7 +2,7 @@ ghost use Rattle.std.specs.Prelude.{◌≡◌, ◌≤◌, ◌<◌, ◌+◌, ◌*
 ghost use Rattle.live_member.specs.Meanings.{meaning_of, IsWithinLimits};
 ghost use Rattle.live_member.specs.Lives.{IsLive};
 ghost use Rattle.live_settle.specs.Rans.{numbers_below, AreRans};
-ghost use Rattle.live_group.specs.Desks.{tickets_each};
+ghost use Rattle.live_group.specs.Desks.{AreTokens, tickets_each};
 ghost use Rattle.live_group.specs.Outs.{IsOut, HasRun, all_left, turns_of};
 
 use crate::acting::act_all;
@@ -61,9 +61,7 @@ fn run_named<L: Run + Send + Sync, R: Threads + Wait + Sync, G: Gate + Sync>(
     requires meaning { meaning_of g.now (map (λ l. l.items) lists.items) draws.now ≡ L.meaning }
     requires draws { length draws.now ≡ length lists.items }
     requires within { IsWithinLimits L.meaning }
-    requires name { tokens.name ≡ L.name }
-    requires parts { tokens.parts ≡ L.parts }
-    requires enough { tokens.parts ≡ length lists.items * 4 + 1 }
+    requires tokens { AreTokens tokens.name tokens.parts L.name L.parts (length lists.items) }
     requires turns { turns ≡ L.turns }
     ensures rans { IfOk result (λ rans. AreRans L.meaning rans.items) }
     ensures acted { IfOk result (λ rans. All (HasRun L.meaning L.turns) rans.items) }

@@ -1,14 +1,13 @@
-use Rattle.std.proofs.Common.{◌≡◌, ℕ, ◌+◌, ◌*◌, List, length, sym, ap, ◌∙◌, subst, arith}
-use Rattle.std.specs.List.{All}
+use Rattle.std.proofs.Common.{◌≡◌, ℕ, ◌+◌, ◌*◌, List, length, sym, ap, ◌∙◌, arith}
 use Rattle.std.proofs.lemmas.List.{length-map}
 use Rattle.live_actors.specs.declared.actor.Actor.{Actor}
 use Rattle.live_member.specs.Meanings.{Meaning}
-use Rattle.live_group.specs.Jobs.{actor_of, actors_below, all_tickets, IsActorBelow, HasSenders}
+use Rattle.live_group.specs.Jobs.{actor_of, actors_below, all_tickets, CanBeDone}
 use Rattle.live_group.specs.Desks.{tickets_each}
 use Rattle.live_group.specs.Outs.{all_left}
 use Rattle.live_settle.proofs.Places.{length-below}
 use Rattle.live_group.proofs.Seating.{few_lists}
-use Rattle.live_group.proofs.Wiring.{actors_there, lines_there}
+use Rattle.live_group.proofs.Wiring.{jobs_there}
 use Rattle.live_group.proofs.Tickets.{tickets_below, three_each, of_each, none_left}
 use Rattle.live_group.proofs.Ending.{have_run}
 use Rattle.live_group.proofs.running.run_named.Goals as goal
@@ -26,7 +25,8 @@ all_ticketed-requires-clause-parts g c =
     let all = ap (λ (actors : List Actor). length actors) jobs.actors in
     let three = three_each c.len-members.result in
     let wide = length-map c.in_ok-jobs.jobs.items actor_of in
-    omega (arith, all, three, wide, c.add.ensures.parts, c.open-book.ensures.parts, c.requires.parts, c.requires.enough)
+    let tokens = c.requires.tokens in
+    omega (arith, all, three, wide, c.add.ensures.parts, c.open-book.ensures.parts, tokens.parts, tokens.enough)
 
 pub all_ticketed-requires-clause-tickets : goal.all_ticketed-requires-clause-tickets
 all_ticketed-requires-clause-tickets g c =
@@ -50,49 +50,23 @@ all_seats-requires-clause-parts g c =
       c.in_ok-jobs-2.ensures.parts,
       c.add.ensures.parts,
       c.open-book.ensures.parts,
-      c.requires.parts,
-      c.requires.enough,
+      c.requires.tokens.parts,
+      c.requires.tokens.enough,
     )
-
-pub act_all-requires-clause-members : goal.act_all-requires-clause-members
-act_all-requires-clause-members g c κs within =
-    ap length c.as_slice.ensures.value ∙ ap length c.in_ok-seats.ensures.seats
-    ∙ length-below (length g.L.Lists.meaning.lists)
-
-pub act_all-requires-clause-few : goal.act_all-requires-clause-few
-act_all-requires-clause-few g c =
-    let few = few_lists g.L.Lists.meaning c.requires.within in
-    let members : length c.as_slice.result.now ≡ length g.L.Lists.meaning.lists =
-    ap length c.as_slice.ensures.value ∙ ap length c.in_ok-seats.ensures.seats
-    ∙ length-below (length g.L.Lists.meaning.lists) in
-    omega (arith, few, members)
 
 pub act_all-requires-clause-jobs : goal.act_all-requires-clause-jobs
 act_all-requires-clause-jobs g c κs within =
     let n = length g.L.Lists.meaning.lists in
+    let few = few_lists g.L.Lists.meaning c.requires.within in
     let seats : length c.as_slice.result.now ≡ n =
     ap length c.as_slice.ensures.value ∙ ap length c.in_ok-seats.ensures.seats ∙ length-below n in
     let lists = ap (λ (t : Meaning). length t.lists) c.requires.meaning in
     let wide = length-map c.args.lists.items (λ v. v.items) in
     let same : c.len-members.result ≡ length c.as_slice.result.now = omega (arith, seats, lists, wide) in
-    of_each {L = g.row.L.Denot} (λ t. t.job) (IsActorBelow (length c.as_slice.result.now)) c.in_ok-jobs-2.jobs.items
+    of_each {L = g.row.L.Denot} (λ t. t.job) (CanBeDone (length c.as_slice.result.now) n) c.in_ok-jobs-2.jobs.items
     c.in_ok-jobs.jobs.items c.in_ok-jobs-2.ensures.jobs
-    (subst (λ (k : ℕ). All (IsActorBelow k) c.in_ok-jobs.jobs.items) same
-    (actors_there {L = g.row.L.Denot} c.len-members.result c.in_ok-jobs.jobs.items c.in_ok-jobs.ensures.actors))
-
-pub act_all-requires-clause-senders : goal.act_all-requires-clause-senders
-act_all-requires-clause-senders g c κs within =
-    let n = length g.L.Lists.meaning.lists in
-    let seats : length c.as_slice.result.now ≡ n =
-    ap length c.as_slice.ensures.value ∙ ap length c.in_ok-seats.ensures.seats ∙ length-below n in
-    let lists = ap (λ (t : Meaning). length t.lists) c.requires.meaning in
-    let wide = length-map c.args.lists.items (λ v. v.items) in
-    let same : c.len-members.result ≡ length c.as_slice.result.now = omega (arith, seats, lists, wide) in
-    let jobs = c.in_ok-jobs.ensures in
-    of_each {L = g.row.L.Denot} (λ t. t.job) (HasSenders (length c.as_slice.result.now)) c.in_ok-jobs-2.jobs.items
-    c.in_ok-jobs.jobs.items c.in_ok-jobs-2.ensures.jobs
-    (subst (λ (k : ℕ). All (HasSenders k) c.in_ok-jobs.jobs.items) same
-    (lines_there {L = g.row.L.Denot} c.len-members.result jobs.inboxes c.in_ok-jobs.jobs.items jobs.width jobs.wired))
+    (jobs_there {L = g.row.L.Denot} c.len-members.result (length c.as_slice.result.now) n same seats
+    (omega (arith, few, seats)) c.in_ok-jobs.jobs.items c.in_ok-jobs.ensures)
 
 pub all_placed-requires-clause-none_left : goal.all_placed-requires-clause-none_left
 all_placed-requires-clause-none_left g c =
@@ -124,8 +98,8 @@ all_placed-requires-clause-none_left g c =
       c.in_ok-jobs-2.ensures.parts,
       c.add.ensures.parts,
       c.open-book.ensures.parts,
-      c.requires.parts,
-      c.requires.enough,
+      c.requires.tokens.parts,
+      c.requires.tokens.enough,
     ) in
     let total = c.audit.ensures.whole whole in
     let tickets = ap (all_tickets turns) c.in_ok-jobs.ensures.actors in
