@@ -1,4 +1,4 @@
-ghost use Rattle.std.specs.Prelude.{◌≡◌, ◌≢◌, ◌≤◌, [], None, Err, IfErr, IfOk};
+ghost use Rattle.std.specs.Prelude.{◌≡◌, ◌≢◌, ◌≤◌, None, Err, IfErr, IfOk};
 ghost use Rattle.repo_io.specs.Outside.{HasRisen};
 ghost use Rattle.repo_io.specs.Lines.{lines};
 ghost use Rattle.script_story.specs.Evaluation.{env_by};
@@ -13,7 +13,8 @@ use script_lines::{LineError, LineReader, Next, Script, put_line_error};
 use std::alloc::Global;
 use std::thread::Threads;
 
-// Carries out the script of the source, and leaves its last world.
+// Carries out the script of the source, one line after another, each before more is read than stands in the reader's
+// room. It leaves the last world.
 pub(crate) fn run_script<R: Threads + Sync, S: Source, K: Sink, N: Net + Sync, D: Draws>(
     rt: &R,
     alloc: Global,
@@ -36,31 +37,6 @@ pub(crate) fn run_script<R: Threads + Sync, S: Source, K: Sink, N: Net + Sync, D
     let Ok(mut reader) = LineReader::new(alloc) else {
         return Status::NoMemory;
     };
-    run_lines(rt, alloc, &mut reader, source, sink, net, draws, end)
-}
-
-// Carries out one line after another, each before more is read than stands in the reader's room.
-fn run_lines<R: Threads + Sync, S: Source, K: Sink, N: Net + Sync, D: Draws>(
-    rt: &R,
-    alloc: Global,
-    reader: &mut LineReader,
-    source: &mut S,
-    sink: &mut K,
-    net: &N,
-    draws: &D,
-    end: &mut Option<World>,
-) -> Status
-    requires empty { reader.old ≡ [] }
-    requires none { end.old ≡ None }
-    ensures ran { Known (S.left source.old) (S.left source.new)
-        (Ran (env_by (D.draw draws.now) (N.passes net.now)) (K.out sink.old) (K.out sink.new) result end.new) }
-    ensures no_world { result ≢ Status.Done → end.new ≡ None }
-    ensures read_fault { result ≡ Status.ReadFault
-        → HasRisen (S.faults source.old) (S.faults source.new) }
-    ensures write_fault { result ≡ Status.WriteFault
-        → HasRisen (K.faults sink.old) (K.faults sink.new) }
-    ensures never_usage { result ≢ Status.Usage }
-{
     let mut script = Script::new(alloc);
     let mut report = Vec::new(alloc);
     loop {

@@ -4,7 +4,7 @@ use Rattle.script_lines.specs.Scripts.{reached}
 use Rattle.repo_top.specs.Carrying.{Carried, Finishes, Known, Stops, Took}
 use Rattle.repo_io.specs.Lines.{lines}
 use Rattle.repo_top.proofs.KnownRuns.{known_finished, known_line, known_read, known_stopped, known_unread}
-use Rattle.repo_top.proofs.running.run_lines.Goals as goal
+use Rattle.repo_top.proofs.running.run_script.Goals as goal
 
 pub prefix-line-requires : goal.prefix-line-requires
 prefix-line-requires g c = let h = rw c.in-Ok-Line.field-0-is at c.in-Ok-Line.ensures.next in h.within
@@ -34,7 +34,7 @@ loop-count-preserved g c =
     let env = env_by (g.D.Draws.draw c.args.draws.now) (g.N.Net.passes c.args.net.now) in
     let held = c.next.new.self in
     let r = reached c.loop-count.script in
-    let next = reached c.in-Ok.next in
+    let next = reached c.in-Ok-carry_out.next in
     let out = g.K.Sink.out c.args.sink.now in
     let so_far = known_read env out c.loop-count.reader held r (g.K.Sink.out c.loop-count.sink)
     (g.S.Source.left c.args.source.now) (g.S.Source.left c.loop-count.source) (g.S.Source.left c.next.new.source)
@@ -46,13 +46,13 @@ loop-count-preserved g c =
     (Carried env held next out (g.K.Sink.out c.carry_out.new.sink)) in
     let line = known_line env out held r (g.K.Sink.out c.loop-count.sink) (g.K.Sink.out c.carry_out.new.sink)
     (g.S.Source.left c.args.source.now) (g.S.Source.left c.next.new.source) c.in-Ok-Line.count next h
-    (subst P c.prefix-line.ensures c.in-Ok.ensures.took) so_far in
+    (subst P c.prefix-line.ensures c.in-Ok-carry_out.ensures.took) so_far in
     record {
       so_far = subst Q (sym c.pass.ensures) line;
-      is = c.in-Ok.ensures.is;
+      is = c.in-Ok-carry_out.ensures.is;
       none = c.loop-count.invariant.none;
       source = omega (arith, c.loop-count.invariant.source, c.in-Ok-Line.ensures.faults);
-      sink = omega (arith, c.loop-count.invariant.sink, c.in-Ok.ensures.faults);
+      sink = omega (arith, c.loop-count.invariant.sink, c.in-Ok-carry_out.ensures.faults);
     }
 
 pub returns-in-Ok-Last-clause-ran : goal.returns-in-Ok-Last-clause-ran

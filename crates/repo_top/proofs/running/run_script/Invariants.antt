@@ -2,7 +2,7 @@ use Rattle.std.proofs.Common.{◌≡◌, ◌≤◌, ◌-◌, None}
 use Rattle.script_story.specs.Evaluation.{env_by}
 use Rattle.script_lines.specs.Scripts.{IsScript, reached}
 use Rattle.repo_top.specs.Carrying.{Carried, Known}
-use Rattle.repo_top.proofs.running.run_lines.Given as goal
+use Rattle.repo_top.proofs.running.run_script.Given as goal
 
 abbrev pub invariant-loop-count : goal.invariant-loop-count
 invariant-loop-count g l = record {
