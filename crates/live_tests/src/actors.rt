@@ -1,6 +1,6 @@
 // What the actors of a live group call, in order, in memory.
-ghost use Rattle.std.specs.Prelude.{◌≡◌, ◌∷◌, []};
-ghost use Rattle.live_member.specs.Meanings.{IsWithinLimits};
+ghost use Rattle.std.specs.Prelude.{◌≡◌};
+ghost use Rattle.live_tests.specs.Twos.{IsOfTwo};
 
 use crate::inputs::{ALICE, BOB, limited, object, two_members, two_objects};
 use crate::memory::{Memory, Seen, mark};
@@ -117,10 +117,7 @@ fn act_two<L: Lists, R: Abort + AllocGlobal + Wait>(
     alices: Vec<Object>,
     bobs: Vec<Object>,
 )
-    requires group { g.now ≡ L.meaning.group }
-    requires lists { L.meaning.lists ≡ alices.items ∷ bobs.items ∷ [] }
-    requires draws { L.meaning.draws ≡ 100 ∷ 200 ∷ [] }
-    requires within { IsWithinLimits L.meaning }
+    requires { IsOfTwo L.meaning g.now alices.items bobs.items }
 {
     let mut alice = Live::<L, 100>::new(rt.alloc(), g, ALICE, alices, 100).expect(rt, "memory");
     let mut bob = Live::<L, 100>::new(rt.alloc(), g, BOB, bobs, 200).expect(rt, "memory");

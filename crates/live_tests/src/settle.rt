@@ -1,9 +1,9 @@
 // The settle of two members, each of which has done something before.
-ghost use Rattle.std.specs.Prelude.{◌≡◌, ◌≤◌, ◌∷◌, [], map, length};
+ghost use Rattle.std.specs.Prelude.{◌≡◌, ◌≤◌, map, length};
 ghost use Rattle.std.specs.List.{All};
-ghost use Rattle.live_member.specs.Meanings.{IsWithinLimits};
 ghost use Rattle.live_member.specs.Lives.{IsLive};
 ghost use Rattle.live_settle.specs.Rans.{numbers_below};
+ghost use Rattle.live_tests.specs.Twos.{IsOfTwo};
 
 use crate::inputs::{ALICE, BOB, limited, object, pair, two_members, two_objects};
 use live_member::*;
@@ -123,10 +123,7 @@ fn settle_two<L: Lists, R: Abort + AllocGlobal>(
     alices: Vec<Object>,
     bobs: Vec<Object>,
 )
-    requires group { g.now ≡ L.meaning.group }
-    requires lists { L.meaning.lists ≡ alices.items ∷ bobs.items ∷ [] }
-    requires draws { L.meaning.draws ≡ 100 ∷ 200 ∷ [] }
-    requires within { IsWithinLimits L.meaning }
+    requires { IsOfTwo L.meaning g.now alices.items bobs.items }
 {
     let mut alice = Live::<L, 1>::new(rt.alloc(), g, ALICE, alices, 100).expect(rt, "memory");
     let mut bob = Live::<L, 100>::new(rt.alloc(), g, BOB, bobs, 200).expect(rt, "memory");

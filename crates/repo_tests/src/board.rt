@@ -1,7 +1,6 @@
-ghost use Rattle.std.specs.Prelude.{◌≡◌, ◌<◌, ◌≤◌, OnSome};
-ghost use Rattle.fetch_board.specs.Counts.{items};
-ghost use Rattle.fetch_board.specs.Seats.{fresh, IsSeatOf};
-ghost use Rattle.fetch_board.specs.Answers.{Rests};
+ghost use Rattle.std.specs.Prelude.{◌≡◌, ◌≤◌, OnSome};
+ghost use Rattle.fetch_board.specs.Seats.{fresh};
+ghost use Rattle.repo_tests.specs.Shared.{HaveShared};
 
 use crate::expect::{is, same};
 use fetch_board::*;
@@ -12,9 +11,7 @@ use std::test::*;
 fn share_with_two_tries(board: &Board<u32>, one: &mut Seat<u32>, two: &mut Seat<u32>) -> Option<()>
     requires board { (board.now.items ≡ 2) × (board.now.tries ≡ 2) }
     requires seats { (one.old ≡ fresh board.now 1) × (two.old ≡ fresh board.now 1) }
-    ensures one { OnSome result (IsSeatOf board.now one.new × (one.new.shares ≡ 1) × Rests one.new) }
-    ensures two { OnSome result (IsSeatOf board.now two.new × (two.new.shares ≡ 1) × Rests two.new) }
-    ensures passed { OnSome result ((0 < items 0 one.new.passed) × (0 < items 1 one.new.passed)) }
+    ensures { OnSome result (HaveShared board.now one.new two.new) }
 {
     let Taken::Yes { attempt: 0 } = board.claim(one, 0) else {
         return None;
@@ -44,9 +41,7 @@ fn share_with_two_tries(board: &Board<u32>, one: &mut Seat<u32>, two: &mut Seat<
 fn share_with_one_try(board: &Board<u32>, one: &mut Seat<u32>, two: &mut Seat<u32>) -> Option<()>
     requires board { (board.now.items ≡ 2) × (board.now.tries ≡ 1) }
     requires seats { (one.old ≡ fresh board.now 1) × (two.old ≡ fresh board.now 1) }
-    ensures one { OnSome result (IsSeatOf board.now one.new × (one.new.shares ≡ 1) × Rests one.new) }
-    ensures two { OnSome result (IsSeatOf board.now two.new × (two.new.shares ≡ 1) × Rests two.new) }
-    ensures passed { OnSome result ((0 < items 0 one.new.passed) × (0 < items 1 one.new.passed)) }
+    ensures { OnSome result (HaveShared board.now one.new two.new) }
 {
     let Taken::Yes { attempt: 0 } = board.claim(one, 0) else {
         return None;
@@ -71,9 +66,7 @@ fn share_with_one_try(board: &Board<u32>, one: &mut Seat<u32>, two: &mut Seat<u3
 fn share(board: &Board<u32>, one: &mut Seat<u32>, two: &mut Seat<u32>) -> Option<()>
     requires board { (board.now.items ≡ 2) × (board.now.tries ≤ 2) }
     requires seats { (one.old ≡ fresh board.now 1) × (two.old ≡ fresh board.now 1) }
-    ensures one { OnSome result (IsSeatOf board.now one.new × (one.new.shares ≡ 1) × Rests one.new) }
-    ensures two { OnSome result (IsSeatOf board.now two.new × (two.new.shares ≡ 1) × Rests two.new) }
-    ensures passed { OnSome result ((0 < items 0 one.new.passed) × (0 < items 1 one.new.passed)) }
+    ensures { OnSome result (HaveShared board.now one.new two.new) }
 {
     if board.tries() == 1 {
         share_with_one_try(board, one, two)
