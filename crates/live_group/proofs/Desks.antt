@@ -58,14 +58,16 @@ module _ (t : Meaning) (turns : ℕ) (old new : Living) (first second look spent
     other_call (Ok r) steps = other_steps r steps
     other_call (Err want) same = subst (λ (l : Living). IsDesk turns l first second look spent) (sym same) is
 
-  -- a claim of fetcher 1
-  pub first_claims : (r : LiveReply) → StepsBy t 900000 (event.Claim 1) old new r → (left : ℕ) → left + 1 ≡ first
-      → (now : ℕ) → now ≡ spent + 1 → IsDesk turns new left second look now
-  first_claims r steps left one now more = elim (cases_lt (length old.journal) 900000) [
+  -- a claim of fetcher 1 or 2
+  pub claims : (f : ℕ) (r : LiveReply) → StepsBy t 900000 (event.Claim f) old new r → (left_first left_second : ℕ)
+      → left_first + is_claim_by 1 (event.Claim f) ≡ first → left_second + is_claim_by 2 (event.Claim f) ≡ second
+      → (now : ℕ) → now + left_first + left_second ≡ spent + first + second
+      → IsDesk turns new left_first left_second look now
+  claims f r steps left_first left_second one two now more = elim (cases_lt (length old.journal) 900000) [
     | inr full ↦
         let same = ap (λ (l : Living). length l.journal) (steps.0 full).1 in
         record {
-          tickets = let all = is.tickets in omega (arith, all, one, more);
+          tickets = let all = is.tickets in omega (arith, all, more);
           firsts = λ there. absurd (omega (arith, there, same, full));
           seconds = λ there. absurd (omega (arith, there, same, full));
           published = λ there. absurd (omega (arith, there, same, full));
@@ -73,37 +75,13 @@ module _ (t : Meaning) (turns : ℕ) (old new : Living) (first second look spent
     | inl room ↦
         let entered = (steps.1 room).0.entered in
         record {
-          tickets = let all = is.tickets in omega (arith, all, one, more);
+          tickets = let all = is.tickets in omega (arith, all, more);
           firsts =
               λ there.
-              let had = is.firsts room in omega (arith, had, one, counted old new (event.Claim 1) r entered 1);
-          seconds =
-              λ there. let had = is.seconds room in omega (arith, had, counted old new (event.Claim 1) r entered 2);
-          published = λ there no_look. (steps.1 room).1 ∙ is.published room no_look;
-        }
-  ]
-
-  -- a claim of fetcher 2
-  pub second_claims : (r : LiveReply) → StepsBy t 900000 (event.Claim 2) old new r → (left : ℕ) → left + 1 ≡ second
-      → (now : ℕ) → now ≡ spent + 1 → IsDesk turns new first left look now
-  second_claims r steps left one now more = elim (cases_lt (length old.journal) 900000) [
-    | inr full ↦
-        let same = ap (λ (l : Living). length l.journal) (steps.0 full).1 in
-        record {
-          tickets = let all = is.tickets in omega (arith, all, one, more);
-          firsts = λ there. absurd (omega (arith, there, same, full));
-          seconds = λ there. absurd (omega (arith, there, same, full));
-          published = λ there. absurd (omega (arith, there, same, full));
-        }
-    | inl room ↦
-        let entered = (steps.1 room).0.entered in
-        record {
-          tickets = let all = is.tickets in omega (arith, all, one, more);
-          firsts =
-              λ there. let had = is.firsts room in omega (arith, had, counted old new (event.Claim 2) r entered 1);
+              let had = is.firsts room in omega (arith, had, one, counted old new (event.Claim f) r entered 1);
           seconds =
               λ there.
-              let had = is.seconds room in omega (arith, had, one, counted old new (event.Claim 2) r entered 2);
+              let had = is.seconds room in omega (arith, had, two, counted old new (event.Claim f) r entered 2);
           published = λ there no_look. (steps.1 room).1 ∙ is.published room no_look;
         }
   ]

@@ -91,54 +91,24 @@ impl<L: Run> LockedMember<L> {
         ensures spent { OnOk result (tickets.new.amount + 1 ≡ tickets.old.amount) }
         ensures publisher { IfOk result (IsOfMember (length L.meaning.lists)) }
     {
-        if f == 1 {
-            self.claim_first(g, tickets)
-        } else {
-            self.claim_second(g, tickets)
-        }
-    }
-
-    fn claim_first(&mut self, g: &Group, tickets: &mut Share<L>) -> Result<LiveReply, AllocError>
-        requires part { 0 < tickets.old.parts }
-        requires ticket { 0 < tickets.old.amount }
-        ensures parts { tickets.new.parts ≡ tickets.old.parts }
-        ensures spent { OnOk result (tickets.new.amount + 1 ≡ tickets.old.amount) }
-        ensures publisher { IfOk result (IsOfMember (length L.meaning.lists)) }
-    {
-        if self.first == 0 {
+        let left = if f == 1 { self.first } else { self.second };
+        if left == 0 {
             return Err(AllocError);
         }
         let LockedMember {
             live,
             first,
-            spent,
-            ..
-        } = self;
-        let reply = live.claim(g, 1)?;
-        tickets.transfer(spent, 1);
-        *first -= 1;
-        Ok(reply)
-    }
-
-    fn claim_second(&mut self, g: &Group, tickets: &mut Share<L>) -> Result<LiveReply, AllocError>
-        requires part { 0 < tickets.old.parts }
-        requires ticket { 0 < tickets.old.amount }
-        ensures parts { tickets.new.parts ≡ tickets.old.parts }
-        ensures spent { OnOk result (tickets.new.amount + 1 ≡ tickets.old.amount) }
-        ensures publisher { IfOk result (IsOfMember (length L.meaning.lists)) }
-    {
-        if self.second == 0 {
-            return Err(AllocError);
-        }
-        let LockedMember {
-            live,
             second,
             spent,
             ..
         } = self;
-        let reply = live.claim(g, 2)?;
+        let reply = live.claim(g, f)?;
         tickets.transfer(spent, 1);
-        *second -= 1;
+        if f == 1 {
+            *first -= 1;
+        } else {
+            *second -= 1;
+        }
         Ok(reply)
     }
 
