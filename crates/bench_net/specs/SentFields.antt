@@ -30,7 +30,7 @@ pub record SentPairs (vectors : List (List ℕ)) (sent_pairs : List (ℕ × ℕ)
   pub answers : (sender : ℕ) (vector : List ℕ)
       → was_sent sender vector packets ≡ is_sent_pair sender vector vectors sent_pairs
 
--- There is the room that is spare, each packet's vector is there, and the pairs tell as the packets do.
+-- There is the capacity that is spare, each packet's vector is there, and the pairs are those of the packets.
 pub record AreSent (s : Inside) : Type 0 where
   pub room : s.spare + length s.packets.items ≤ vec_capacity s.packets
   pub room_of_vectors : s.spare ≤ spare s.vectors

@@ -15,7 +15,7 @@ abbrev pub sent_packet : ℕ → List ℕ → List ℕ → SentPacket
 sent_packet sender vector octets =
     record { sender = sender; vector = vector; octets = octets }
 
--- What was sent, and how many packets more there is room for.
+-- What was sent, and for how many more packets there is capacity.
 pub record SentList : Type 0 where
   pub packets : List SentPacket
   pub spare : ℕ

@@ -14,7 +14,7 @@ struct Packet {
     octets: Vec<u8>,
 }
 
-/// The packets that were sent in a group, numbered from 1 in the order of sending, and room for more.
+/// The packets that were sent in a group, numbered from 1 in the order of sending, with capacity for more.
 ///
 /// Each has its sender, the vector that it reports, and its octets. It is found by number and by sender and vector, in
 /// a time that doesn't grow with the list.
@@ -39,7 +39,7 @@ impl Drop for Sent {
     }
 }
 
-// What was sent is seen as a list, beside the number of packets that there is room for.
+// What was sent is seen as a list, with the number of packets for which there is capacity.
 impl Model for Sent {
     ghost use Rattle.bench_net.specs.SentList.{SentList};
 
@@ -93,7 +93,7 @@ impl Sent {
         Ok(self.add_reserved(sender, vector, octets))
     }
 
-    /// Makes room for `n` packets, unless there is room for so many already.
+    /// Reserves capacity for `n` packets, unless there is as much already.
     pub fn reserve(&mut self, n: usize) -> Result<(), AllocError>
         ensures ok { OnOk result (self.new ≡ record self.old { spare = max self.old.spare n }) }
         ensures err { OnErr result (self.new ≡ self.old) }
@@ -107,7 +107,7 @@ impl Sent {
         Ok(())
     }
 
-    /// Appends a packet, for which room was made, and gives its number. It takes no memory.
+    /// Appends a packet, for which capacity was reserved, and gives its number. It allocates nothing.
     pub fn add_reserved(&mut self, sender: u32, vector: Vec<u16>, octets: Vec<u8>) -> u32
         requires spare { 0 < self.old.spare }
         requires few { length self.old.packets < 4294967295 }

@@ -1,4 +1,4 @@
--- What becomes of a world in which each machine starts again after a settle.
+-- What becomes of a world in which each sync state starts again after a settle.
 use Rattle.std.proofs.Common.{◌≡◌, ℕ, suc, ◌+◌, ◌≤◌, ◌<◌, ◌^◌, Bool, List, [], ◌∷◌, length, refl, sym, ap, ◌∙◌, subst}
 use Rattle.std.proofs.Common.{arith}
 use Rattle.group_model.specs.Member.{Member}

@@ -35,7 +35,7 @@ HoldersCanAnswer s =
     < length s.members
     → claim_at (world_of s) j f ≡ Some t → member_holds (member (world_of s) q) t ≡ true → IsAnswerStored s j f q
 
--- So a claimed part can be had from its publisher, unless that has hidden its publication.
+-- So a claimed part can be had from its publisher, unless that has deleted its publication.
 abbrev pub PublishersCanAnswer : GroupState → Type 0
 PublishersCanAnswer s = AreAllCollisionFree s.keys (logs (world_of s)) → (j f : ℕ) (t : Part) → j < length s.members
     → claim_at (world_of s) j f ≡ Some t

@@ -1,4 +1,4 @@
--- What comes to a fetcher for what it claims, and what it makes of its member.
+-- What a fetcher gets for what it claims, and what it makes of its member.
 use Rattle.std.specs.Prelude.{ℕ, List, [], length, Option, Some, None, unwrap_or, Result, Ok, Err}
 use Rattle.ndn_data.specs.Data.{Data}
 use Rattle.repo_plan.specs.declared.part.Part.{Part}
@@ -42,7 +42,7 @@ abbrev pub lender_of : MemberState → Option MemberState → MemberState
 lender_of asker None = asker
 lender_of asker (Some other) = other
 
--- ---- what is told
+-- ---- what is reported
 
 -- The octets that are kept, or none, or why it is refused: a fetcher that claims nothing has number 7.
 abbrev pub answered : GroupKeys → Logs → Option Part → Response → Result (Option ℕ) EventError

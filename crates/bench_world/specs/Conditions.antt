@@ -131,7 +131,7 @@ pub record CanFetchAllForMirrors (g : GroupKeys) (n : ℕ) (lenders : List Membe
 
 -- ---- all members
 
--- They tell what they know.
+-- They announce what they know.
 pub record CanTell (g : GroupKeys) (ls : Logs) (ms : List MemberState) : Type 0 where
   pub logs : AreLogs g ls
   pub numbers : MembersAreNumbered ms

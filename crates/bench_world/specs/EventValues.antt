@@ -130,9 +130,9 @@ group_event g (EventValue.Delete m client name) = group.Event.Issue m client (co
 group_event g EventValue.Summary = group.Event.Summary
 group_event g EventValue.Traffic = group.Event.Traffic
 
--- ---- what is told
+-- ---- what is reported
 
--- Each form of a reply, with its values. Nothing is reported of an event that is refused.
+-- Each form of a reply, with its values. An event that is refused has no report.
 pub data ReportValue : Type 0 where
   Nothing : ReportValue
   Publish : (m seq segments sync : ℕ) → ReportValue
@@ -219,9 +219,9 @@ report_value (was.Summary members entries segments octets) =
 report_value (was.Traffic syncs delivered attempts parts octets) = ReportValue.Traffic syncs delivered attempts parts
     octets
 
--- ---- what is told in a world
+-- ---- what is reported in a world
 
--- The report of a sync Interest that a member heard, by the mode of its machine afterwards.
+-- The report of a sync Interest that a member heard, by the mode of its sync state afterwards.
 abbrev pub delivered_report : ℕ → ℕ → Mode → ReportValue
 delivered_report k m Steady = ReportValue.DeliverSteady k m
 delivered_report k m Suppressed = ReportValue.DeliverSuppressed k m
@@ -251,7 +251,7 @@ abbrev pub dump_report : ℕ → Option (List ℕ) → ReportValue
 dump_report m None = ReportValue.DumpNone m
 dump_report m (Some octets) = ReportValue.DumpHex m octets
 
--- The report of octets that a member took as a sync Interest, by the mode of its machine afterwards.
+-- The report of octets that a member took as a sync Interest, by the mode of its sync state afterwards.
 abbrev pub mode_report : ℕ → Mode → ReportValue
 mode_report m Steady = ReportValue.HearSteady m
 mode_report m Suppressed = ReportValue.HearSuppressed m

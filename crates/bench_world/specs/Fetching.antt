@@ -13,7 +13,7 @@ abbrev pub attempt_at : (Part → ℕ → Bool) → List MemberState → ℕ →
 attempt_at passes others tries h t =
     if lends others t then find (λ n. passes t (attempts_of (held_plan h) t + n)) (numbers_from 1 tries) else None
 
--- What comes of a part in so many tries at most.
+-- The result of a part in at most so many tries.
 abbrev pub fetched_one : (Part → ℕ → Bool) → List MemberState → ℕ → HoldingsState → Part → Fetched
 fetched_one passes others tries h t = record {
   part = t;
@@ -21,6 +21,6 @@ fetched_one passes others tries h t = record {
   attempts = unwrap_or (attempt_at passes others tries h t) tries;
 }
 
--- What comes of all parts, each in so many tries at most.
+-- The results of all parts, each in at most so many tries.
 abbrev pub fetched_all : (Part → ℕ → Bool) → List MemberState → ℕ → HoldingsState → List Part → List Fetched
 fetched_all passes others tries h ts = map (fetched_one passes others tries h) ts

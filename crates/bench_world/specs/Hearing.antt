@@ -1,4 +1,4 @@
--- What octets tell a member as a sync Interest.
+-- What a member learns from octets that are a sync Interest.
 use Rattle.std.specs.Prelude.{ℕ, ◌≡◌, ◌≤◌, List, Result, Ok, Err, length, slice_index, nat_lt, if◌then◌else◌}
 use Rattle.svs_sync.specs.declared.sync_refusal.SyncRefusal.{SyncRefusal}
 use Rattle.group_model.specs.Events.{SyncInterest}

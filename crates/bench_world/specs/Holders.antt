@@ -21,9 +21,9 @@ use Rattle.bench_world.specs.Lending.{lends}
 -- What contracts say of a holder of some kind.
 pub record HolderPredicates (H : Type 0) : Type 1 where
   pub holdings : H → HoldingsState  -- what it has of publications; its plan is read there
-  pub held : H → List Part  -- the parts that it has come to hold, in order
+  pub held : H → List Part  -- the parts that became held, in order
   pub rest : H → H  -- all of it but those
-  pub takes : List Fetched → H → H  -- what it makes of what came
+  pub takes : List Fetched → H → H  -- what it makes of what was fetched
   pub is_consistent : GroupKeys → Logs → H → Type 0  -- what it holds is what was published
 
 -- It holds the part.

@@ -17,7 +17,7 @@ no_command = record { member = 0; client = 0; command = Check 0 }
 abbrev pub commands_made : List IssuedCommand → List ℕ → List Issued
 commands_made commands made = map (λ k. issued_of (slice_index_or commands k no_command)) made
 
--- There is the room that is spare, each number is that of a command, and a command was made exactly where it is there.
+-- There is the capacity that is spare, each number is that of a command, and a command was made just where it is there.
 pub record AreIssued (s : Inside) : Type 0 where
   pub room : s.spare + length s.made.items ≤ vec_capacity s.made
   pub room_of_commands : s.spare ≤ spare s.commands

@@ -18,7 +18,7 @@ use Rattle.repo_member.proofs.PublicLaws.{takes_consistent}
 use Rattle.bench_world.specs.Holders.{AreHolders, FetchForHolder, FetchedNothing}
 use Rattle.bench_world.specs.MemberWords.{member_words}
 
--- What came is what a member takes.
+-- What was fetched is what a member takes.
 arrives : (g : GroupKeys) (logs : Logs) (a : MemberState) (x : Fetched) → FetchForHolder g logs (member_holdings a) x
     → IfSome x.packet (IsConsistentArrival g logs a x.part)
 arrives g logs a x came = go x.packet came.packet where

@@ -38,7 +38,7 @@ module _ (passes : ℕ → ℕ → ℕ → ℕ → ℕ → ℕ → Bool) (w : Wo
   abbrev pub mirror_attempts : MirrorState → Part → ℕ
   mirror_attempts m t = unwrap_or (mirror_attempt m t) tries
 
-  -- The parts whose attempts count from then on: all but the records that came of objects that its pattern isn't for,
+  -- The parts whose attempts count from then on: all but the records of objects that its pattern doesn't accept,
   -- which it passes over and never asks for again.
   abbrev pub mirror_counts : MirrorState → List Part
   mirror_counts m =

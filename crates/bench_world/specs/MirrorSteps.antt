@@ -25,7 +25,7 @@ mirror_at mirrors i = slice_index_or mirrors i no_mirror
 abbrev pub mirror_learns : List ℕ → MirrorState → MirrorState
 mirror_learns received m = record m { known = join m.known received }
 
--- What comes of the parts that it asks members for in a fetch. To the network its number is by 16 higher.
+-- The results of the parts that it asks members for in a fetch. For the network its number is greater by 16.
 abbrev pub mirror_fetched : (ℕ → ℕ → ℕ → ℕ → ℕ → ℕ → Bool) → List MemberState → (i tries loss : ℕ) → MirrorState
     → List Fetched
 mirror_fetched passes members i tries loss m =

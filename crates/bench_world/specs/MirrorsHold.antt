@@ -90,7 +90,7 @@ not_held m t wanted =
 
 -- ---- what it takes
 
--- What came for a mirror, seen as any holder, came for it as a mirror.
+-- What was fetched for a mirror, seen as any holder, was fetched for it as a mirror.
 pub for_mirror : (g : GroupKeys) (logs : Logs) (m : MirrorState) (x : Fetched) → AreLogs g logs
     → IsConsistentMirror g logs m
     → FetchForHolder g logs (mirror_holdings m) x → FetchForMirror g logs m x
@@ -163,7 +163,7 @@ takes_nothing xs m none =
     no_tries m.pattern xs m.attempts (λ k d l. (none k d l).attempts) in
     λ i. record m { store = stored i; passed = passed i; attempts = tried i }
 
--- A consistent mirror that takes what came stays consistent.
+-- A consistent mirror that takes what was fetched stays consistent.
 pub mirror_takes_consistently : (g : GroupKeys) (logs : Logs) (xs : List Fetched) (m : MirrorState) → AreLogs g logs
     → All (FetchForHolder g logs (mirror_holdings m)) xs → IsConsistentMirror g logs m
     → IsConsistentMirror g logs (mirror_takes xs m)

@@ -1,4 +1,4 @@
--- What is reported and counted of octets that came for a claim.
+-- The report and the counts of octets that were received for a claim.
 use Rattle.std.specs.Prelude.{ℕ, Option, Some, None}
 use Rattle.bench_world.specs.declared.answering.Fed.{Fed}
 use Rattle.bench_world.specs.declared.answering.Fed.TheVariants.{Kept, Refused}
@@ -9,7 +9,7 @@ abbrev pub fed_reply : ℕ → ℕ → Fed → ReportValue
 fed_reply m f Kept = ReportValue.FeedKept m f
 fed_reply m f (Refused refusal) = ReportValue.FeedRefused m f refusal
 
--- How many parts come to be held, where so many octets are kept, or none.
+-- How many parts become held, where so many octets are kept, or none.
 abbrev pub parts_kept : Option ℕ → ℕ
 parts_kept None = 0
 parts_kept (Some octets) = 1

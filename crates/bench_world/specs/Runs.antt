@@ -40,12 +40,12 @@ SettlesAgain = (env : Environment) (old new : GroupState) → HaveSettledPartly 
     → HaveSameMembers (after_event env (world_of new) group.Event.Settle)
     (after_event env (world_of old) group.Event.Settle)
 
--- All stands as before, but for such a settle.
+-- Everything is as before, except after such a settle.
 abbrev pub StandsAsBefore : EventValue → GroupState → GroupState → Type 0
 StandsAsBefore (EventValue.Settle workers) old new = HaveSettledPartly old new
 StandsAsBefore _ old new = new ≡ old
 
--- After a settle, where nothing is hidden, each catalogue is the join of all publications.
+-- After a settle, where nothing is deleted, each catalogue is the join of all publications.
 abbrev pub JoinsAfter : EventValue → World → Type 0
 JoinsAfter (EventValue.Settle workers) w = NothingDeleted w → AllJoined w
 JoinsAfter _ w = Unit {0}
@@ -94,8 +94,8 @@ pub record IsStopped (env : Environment) (begun : GroupState) (events : List Eve
   pub because : IsStepFaultOf
       (refusal env (world_of before) (group_event begun.keys (slice_index_or events k EventValue.Traffic))) received
 
--- Where the later events publish nothing and tell each member of all that each other has published, and nothing is
--- wanted or hidden in the end, each catalogue is the join of all publications.
+-- Where the later events publish nothing and inform each member of all that each other has published, and nothing is
+-- wanted or deleted in the end, each catalogue is the join of all publications.
 abbrev pub ListLawFrom : Environment → World → List group.Event → World → Type 0
 ListLawFrom env w events last = (first later : List group.Event) → events ≡ first ++ later
     → EachHearsAll env (after_events env w first) later → NothingDeleted last → NothingWanted last → AllJoined last

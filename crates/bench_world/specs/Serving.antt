@@ -16,7 +16,7 @@ use Rattle.repo_member.specs.InGroup.{published_packet}
 use Rattle.repo_member.specs.ConsistentMembers.{published_want, published_packets}
 use Rattle.bench_world.specs.Sizes.{size_of}
 
--- What octets are as a packet of a published part.
+-- How octets are read as a packet of a published part.
 abbrev pub octets_response : GroupKeys → Logs → Part → List ℕ → Response
 octets_response g logs t octets =
     if is_ok (ring_verdict (published_want g logs t) g.members.ring octets)

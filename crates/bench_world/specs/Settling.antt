@@ -15,11 +15,11 @@ use Rattle.bench_world.specs.Truth.{AllTriedFew}
 use Rattle.bench_world.specs.Worlds.{state_at, in_groups, AllCountsStay, AreConsistentMembers, MembersAreNumbered}
 use Rattle.bench_world.specs.declared.sync_exchange.MemberSync.{MemberSync}
 
--- What a member tells, as it is kept.
+-- What a member announces, as it is kept.
 abbrev pub sent_sync : MemberSync → SentPacket
 sent_sync t = sent_packet t.sender t.vector.items t.octets.items
 
--- How many parts come to all members, and how many octets, where each part counts as `weight` says.
+-- How many parts all members get, and how many octets, where each part counts as `weight` says.
 abbrev pub new_parts_sum : (Part → ℕ) → World → List Member → ℕ
 new_parts_sum weight w ms = sum_by (λ m. sum_by weight (new_parts w m)) ms
 

@@ -1,4 +1,4 @@
--- When an event can be carried out, what comes of it, and lists of events.
+-- When an event can be carried out, its result, and lists of events.
 use Rattle.std.specs.Prelude.{ℕ, ◌≡◌, ◌+◌, ◌<◌, ◌≤◌, IsTrue, length, Option, Some, None}
 use Rattle.std.specs.List.{All}
 use Rattle.svs_vector.specs.declared.vector_fault.VectorFault.{VectorFault}
@@ -88,9 +88,9 @@ IsStepFaultOf refusal step.NoMemory = Unit {0}
 IsStepFaultOf None _ = ⊥
 IsStepFaultOf (Some refusal) made = made ≡ step_fault (fault_of refusal)
 
--- ---- members that are told of
+-- ---- members that are named
 
--- The member of which too large a number is reported is one of so many. No octets are refused when memory runs out.
+-- The member of which a vector has too large a number is one of so many. No octets are refused when memory runs out.
 abbrev pub FaultNamesMember : ℕ → VectorFault → Type 0
 FaultNamesMember n (vector.BadVector at) = Unit {0}
 FaultNamesMember n (vector.NumberTooLarge member number) = member < n

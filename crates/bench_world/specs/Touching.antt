@@ -1,4 +1,4 @@
--- The publications of which something came to someone since all settled last, and that nobody lacks a part of another
+-- The publications of which somebody got something since all settled last, and that nobody lacks a part of another
 -- one.
 use Rattle.std.specs.Prelude.{ℕ, ◌≡◌, ◌⊎◌, ◌<◌, Bool, true, false, ◌&&◌, ◌||◌, List, length, slice_index_or, Option}
 use Rattle.std.specs.Prelude.{Some, None}

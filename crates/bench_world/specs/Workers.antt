@@ -1,4 +1,4 @@
--- Events that come to the same.
+-- Events with the same effect.
 use Rattle.std.specs.Prelude.{◌≡◌}
 use Rattle.group_model.specs.World.{Environment, World}
 use Rattle.group_model.specs.Steps.{after_event}

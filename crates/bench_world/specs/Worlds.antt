@@ -58,12 +58,12 @@ AreConsistentMembers g logs members = (j : ℕ) → j < length members → IsCon
 abbrev pub MembersAreNumbered : List MemberState → Type 0
 MembersAreNumbered members = (j : ℕ) → j < length members → (state_at members j).number ≡ j
 
--- What counts of a member stays: its machine's draws, and the attempts of its parts.
+-- What counts of a member stays: its sync state's draws, and the attempts of its parts.
 pub record CountsStay (old new : MemberState) : Type 0 where
   pub machine : new.machine ≡ old.machine
   pub attempts : new.attempts ≡ old.attempts
 
--- The draws of every member's machine, and the attempts of its parts, stay.
+-- The draws of every member's sync state, and the attempts of its parts, stay.
 abbrev pub AllCountsStay : List MemberState → List MemberState → Type 0
 AllCountsStay old new = (j : ℕ) → CountsStay (state_at old j) (state_at new j)
 
@@ -101,7 +101,7 @@ pub record IsConsistentSync (g : GroupKeys) (logs : Logs) (p : SentPacket) : Typ
   pub vector : IsConsistentVector logs p.vector
   pub octets : p.octets ≡ sync_of g p.sender p.vector
 
--- What a member tells now.
+-- What a member announces now.
 abbrev pub tells : GroupKeys → MemberState → SentPacket
 tells g a = sent_packet a.number a.known (sync_of g a.number a.known)
 

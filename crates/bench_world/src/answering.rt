@@ -23,7 +23,7 @@ use repo_object::{PartRefusal, Want, check_part};
 use repo_plan::Part;
 use std::alloc::{AllocError, Global};
 
-/// What came of octets for a fetcher's part.
+/// The result of octets for a fetcher's part.
 #[derive(Clone, Copy, Debug)]
 pub(crate) enum Fed {
     Kept,
@@ -141,7 +141,7 @@ fn accept_served(
     }
 }
 
-// Another member answers, or the asker itself where there is no other: how many octets are kept, if what came is.
+// Another member answers, or the asker itself where there is no other: how many octets are kept, if the packet is.
 fn answer_from(
     alloc: Global,
     g: &Group,
@@ -178,7 +178,7 @@ fn answer_from(
     accept_served(g, publisher, asker, f, want, Some(copy.as_slice()))
 }
 
-// Another member answers a member's fetcher for what that claims: how many octets are kept, if what came is.
+// Another member answers a member's fetcher for what that claims: how many octets are kept, if the packet is.
 pub(crate) fn answer(
     alloc: Global,
     g: &Group,

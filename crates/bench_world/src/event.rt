@@ -75,7 +75,7 @@ pub enum Event {
         tries: u32,
         loss: u32,
     },
-    /// Each member tells what it knows, and fetches what it lacks, by so many workers.
+    /// Each member announces what it knows, and fetches what it lacks, by so many workers.
     Settle {
         workers: u32,
     },
@@ -134,7 +134,7 @@ pub enum Event {
         client: u32,
         name: Name,
     },
-    /// What all catalogues come to.
+    /// The totals of all catalogues.
     Summary,
     /// What was counted.
     Traffic,

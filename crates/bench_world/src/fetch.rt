@@ -19,7 +19,7 @@ use repo_member::{FetchCounts, Group};
 use std::alloc::{AllocError, Global};
 use std::thread::Threads;
 
-/// What a fetch came to: how many parts were asked for, what came, and how many attempts were made.
+/// The result of a fetch: how many parts were asked for, how many were received, and how many attempts were made.
 #[derive(Clone, Copy, Debug)]
 pub(crate) struct FetchReport {
     pub(crate) planned: usize,

@@ -53,7 +53,7 @@ fn jobs_of_touched<H: Holder>(
     holder.held_jobs(alloc, g, &lenders, after, PHASE_LIMIT)
 }
 
-// One phase, of parts after a place that the others lend: the last part that was asked for, if one was, and what came.
+// One phase, of parts after a place that the others lend: the last part that was asked for, if one was, and the gain.
 fn fetch_phase<N: Net + Sync, R: Threads + Sync, H: Holder>(
     rt: &R,
     alloc: Global,
@@ -88,7 +88,7 @@ fn fetch_phase<N: Net + Sync, R: Threads + Sync, H: Holder>(
     Ok((Some(place), kept))
 }
 
-// Phases from the first wanted part that the others lend to the last: what came.
+// Phases from the first wanted part that the others lend to the last: the gain.
 fn fetch_round<N: Net + Sync, R: Threads + Sync, H: Holder>(
     rt: &R,
     alloc: Global,
@@ -118,7 +118,7 @@ fn fetch_round<N: Net + Sync, R: Threads + Sync, H: Holder>(
     }
 }
 
-/// Rounds until one brings nothing: what came.
+/// Rounds until one brings nothing: the gain.
 pub(crate) fn fetch_all<N: Net + Sync, R: Threads + Sync, H: Holder>(
     rt: &R,
     alloc: Global,

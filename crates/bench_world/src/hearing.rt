@@ -15,7 +15,7 @@ use std::alloc::Global;
 use svs_sync::{Mode, SyncRefusal, check_sync};
 use svs_vector::Vector;
 
-// Who signed the sync Interest that octets are, and the vector that it tells, where the member takes it.
+// Who signed the sync Interest that octets are, and its vector, where the member takes it.
 pub(crate) fn signed_vector(
     alloc: Global,
     g: &Group,

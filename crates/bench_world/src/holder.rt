@@ -51,7 +51,7 @@ pub(crate) trait Holder {
             ≡ jobs_that (some_holds (λ l. lend_touched l.members.now l.touched.now) lenders.now) g.now
             (words.holdings self.now) after most) };
 
-    /// Takes what came of jobs that it planned: for each job its packet, if one came, and how often it was tried. Where
+    /// Takes the results of jobs that it planned: for each job its packet, if any, and how often it was tried. Where
     /// there are several workers and many octets came, they make the digests over the contents of what becomes whole.
     //
     // That threads may share the handle is a condition, since the bounds of a trait's method don't say it to its proof.
@@ -125,7 +125,7 @@ impl Holder for Member {
     ghost are_holders = { members_hold };
 }
 
-// The digests over the contents of what becomes whole in the member by what came of jobs, made by so many workers.
+// The digests over the contents of what becomes whole in the member by the results of jobs, made by so many workers.
 fn digests_with<R: Threads + Sync>(
     rt: &R,
     alloc: Global,
@@ -143,7 +143,7 @@ fn digests_with<R: Threads + Sync>(
     digests(rt, alloc, &whole, workers)
 }
 
-/// A mirror, with the rule by which its pattern is for objects.
+/// A mirror, with the rule by which its pattern accepts objects.
 #[derive(Drop)]
 pub(crate) struct Filtering<'f> {
     pub(crate) mirror: Mirror,

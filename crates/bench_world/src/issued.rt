@@ -38,7 +38,7 @@ impl Hash for IssuedCommand {
     }
 }
 
-// The commands that clients made, in the order of making, and room for more.
+// The commands that clients made, in the order of making, with capacity for more.
 //
 // Whether one was made is found in a time that doesn't grow with the list.
 #[derive(Drop)]
@@ -51,7 +51,7 @@ pub(crate) struct IssuedCommands {
     spare: usize,
 }
 
-// They are seen as a list, beside the number of commands that there is room for.
+// They are seen as a list, with the number of commands for which there is capacity.
 impl Model for IssuedCommands {
     ghost use Rattle.bench_world.specs.IssuedList.{IssuedList};
 
@@ -77,7 +77,7 @@ impl IssuedCommands {
         }
     }
 
-    // Makes room for `n` commands, unless there is room for so many already.
+    // Reserves capacity for `n` commands, unless there is as much already.
     pub(crate) fn reserve(&mut self, n: usize) -> Result<(), AllocError>
         ensures ok { OnOk result (self.new ≡ record self.old { spare = max self.old.spare n }) }
         ensures err { OnErr result (self.new ≡ self.old) }
@@ -90,7 +90,7 @@ impl IssuedCommands {
         Ok(())
     }
 
-    // Appends a command, for which room was made. It takes no memory.
+    // Appends a command, for which capacity was reserved. It allocates nothing.
     pub(crate) fn add_reserved(&mut self, command: IssuedCommand)
         requires { 0 < self.old.spare }
         ensures made { self.new.commands ≡ self.old.commands ++ issued_of command ∷ [] }

@@ -7,7 +7,7 @@ ghost use Rattle.bench_world.specs.Runs.{GathersAgain, SettlesAgain};
 ghost use Rattle.bench_world.specs.Workers.{ComeToTheSame};
 
 /// Where the packets of index packets and segments are known by their names and digests, an answer from a member that
-/// holds the claimed part is kept, and so is one from its publisher, unless that has hidden its publication.
+/// holds the claimed part is kept, and so is one from its publisher, unless that has deleted its publication.
 pub fn claimed_parts_can_be_answered()
     ensures holders { (s : GroupState) → IsConsistentState s → HoldersCanAnswer s }
     ensures publishers { (s : GroupState) → IsConsistentState s → PublishersCanAnswer s }

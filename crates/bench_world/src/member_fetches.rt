@@ -19,7 +19,7 @@ use repo_member::{FetchCounts, Group, Member};
 use std::alloc::{AllocError, Global};
 use std::thread::Threads;
 
-// One member gathers of the others: what came.
+// One member fetches from the others: the gain.
 fn fetch_all_at<N: Net + Sync, R: Threads + Sync>(
     rt: &R,
     alloc: Global,

@@ -51,7 +51,7 @@ impl<'a> Others<'a> {
     }
 }
 
-// Puts a member or a mirror back where it was taken out, so that there is room.
+// Puts a member or a mirror back where it was taken out. Its place is still allocated.
 pub(crate) fn put_back<T: Drop>(row: &mut Vec<T>, place: u32, item: T)
     requires place { place ≤ vec_len row.old }
     requires room { vec_len row.old < vec_capacity row.old }

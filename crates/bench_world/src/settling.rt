@@ -16,7 +16,7 @@ use repo_member::{Group, Member};
 use std::alloc::{AllocError, Global};
 use std::thread::Threads;
 
-/// All claims end, each member tells what it knows and learns what all know, and each gathers what the others store.
+/// All claims end, each member announces what it knows and learns what all know, and fetches what the others store.
 ///
 /// The answer has the sync Interests of all members, how many parts came, and how many octets.
 pub(crate) fn settle_members<N: Net + Sync, R: Threads + Sync>(
@@ -45,7 +45,7 @@ pub(crate) fn settle_members<N: Net + Sync, R: Threads + Sync>(
     Ok((syncs, parts, octets))
 }
 
-/// The members' sync Interests are sent, for which room was made.
+/// The members' sync Interests are sent, for which capacity was reserved.
 pub(crate) fn send_all(sent: &mut Sent, syncs: Vec<MemberSync>)
     requires room { vec_len syncs ≤ sent.old.spare }
     requires few { length sent.old.packets + vec_len syncs < 4294967295 }
@@ -56,7 +56,7 @@ pub(crate) fn send_all(sent: &mut Sent, syncs: Vec<MemberSync>)
     }
 }
 
-/// Each machine starts again, with its member's next draw.
+/// Each sync state starts again, with its member's next draw.
 pub(crate) fn reset_all<D: Draws>(members: &mut Vec<Member>, time: u64, draws: &D)
     requires few { length members.old.items ≤ 16 }
     requires early { time < 2 ^ 62 }

@@ -16,7 +16,7 @@ use bench_net::{Draws, Net};
 use std::thread::Threads;
 
 impl World {
-    /// Carries out an event, and tells what came of it. A refusal has its name.
+    /// Carries out an event, and returns its result. A refusal has its name.
     pub fn take_event<N: Net + Sync, D: Draws, R: Threads + Sync>(
         &mut self,
         rt: &R,
@@ -43,7 +43,7 @@ impl World {
         self.carry_out(rt, event, net, draws)
     }
 
-    /// Carries out an event, and tells what came of it. A refusal has the number that the report prints.
+    /// Carries out an event, and returns its result. A refusal has the number that the report prints.
     #[tactic(auto, using(crate::proofs::Faults::step_faults))]
     pub fn step<N: Net + Sync, D: Draws, R: Threads + Sync>(
         &mut self,

@@ -1,4 +1,4 @@
-// What members tell each other in a settle.
+// The sync Interests that members exchange in a settle.
 ghost use Rattle.std.specs.Prelude.{◌≡◌, ◌≤◌, ◌<◌, ℕ, length, map, slice_index, IfOk};
 ghost use Rattle.svs_vector.specs.Vectors.{join_all};
 ghost use Rattle.group_model.specs.Publications.{Logs};
@@ -12,7 +12,7 @@ use repo_member::{Group, Member};
 use std::alloc::{AllocError, Global};
 use svs_vector::Vector;
 
-/// A member's sync Interest, with the vector that it tells.
+/// A member's sync Interest, with its vector.
 #[derive(Drop)]
 pub(crate) struct MemberSync {
     pub(crate) sender: u32,
@@ -20,7 +20,7 @@ pub(crate) struct MemberSync {
     pub(crate) octets: Vec<u8>,
 }
 
-/// What each member tells now.
+/// What each member announces now.
 pub(crate) fn tell_all(
     alloc: Global,
     g: &Group,
@@ -57,7 +57,7 @@ pub(crate) fn all_known(alloc: Global, members: &[Member]) -> Result<Vector, All
     Ok(all)
 }
 
-/// All claims end, and every member learns what all know. It takes no memory.
+/// All claims end, and every member learns what all know. It allocates nothing.
 pub(crate) fn learn_all(known: &Vector, members: &mut Vec<Member>)
     requires few { length known.now ≤ 16 }
     requires width { (j : ℕ) → j < length members.old.items

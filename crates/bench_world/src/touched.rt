@@ -1,4 +1,4 @@
-// The publications of which something came to someone since some time.
+// The publications of which somebody got something since some time.
 ghost use Rattle.std.specs.Prelude.{◌≡◌, true, false, []};
 ghost use Rattle.repo_plan.specs.Parts.{pair_of};
 ghost use Rattle.repo_plan.specs.Leaps.{IsLeastFrom};

@@ -1,4 +1,4 @@
-// The publications of which something came to someone since all settled last, members and mirrors apart.
+// The publications of which somebody got something since all settled last, members and mirrors apart.
 ghost use Rattle.std.specs.Prelude.{◌≡◌, true, Some, option_map};
 ghost use Rattle.repo_plan.specs.Parts.{pair_of};
 ghost use Rattle.bench_world.specs.Touching.{blocked_pair};

@@ -28,7 +28,7 @@ use std::marker::Model;
 
 /// All members of a group and its mirrors, with what was sent between members, the time, and what was counted.
 ///
-/// A step that is refused has changed nothing, running out of memory included, but for that of a settle.
+/// A step that is refused has changed nothing, running out of memory included, except that of a settle.
 pub struct World {
     alloc: Global,
     group: Group,

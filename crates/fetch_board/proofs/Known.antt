@@ -1,4 +1,4 @@
--- What a seat knows but for what it saw and learnt.
+-- What a seat knows except what it saw and learnt.
 use Rattle.std.proofs.Common.{◌≡◌, ℕ, ◌<◌, List, [], ◌∷◌, refl, ap, sym, subst, ◌∙◌}
 use Rattle.fetch_board.specs.declared.taken.Taken.{Taken}
 use Rattle.fetch_board.specs.declared.taken.Taken.TheVariants as taken

@@ -1,4 +1,4 @@
--- What a claim and a look tell, and what is left of the items at the end.
+-- What a seat learns from a claim and a look, and what is left of the items at the end.
 use Rattle.std.specs.Prelude.{◌≡◌, ℕ, ◌+◌, ◌<◌, ◌≤◌, ltb, ◌==◌, List, [], ◌∷◌, Option, Some, None}
 use Rattle.fetch_board.specs.declared.word.Word.{Word}
 use Rattle.fetch_board.specs.declared.word.Word.TheVariants.{Wanted, Held, Done, Spent}
@@ -10,7 +10,7 @@ use Rattle.fetch_board.specs.Counts.{one, items, pairs, triples, paid, Has}
 use Rattle.fetch_board.specs.Words.{IsWithinTries, IsAtMost}
 use Rattle.fetch_board.specs.Seats.{SeatData, items_of, items_of_done, seen_of, looked, claimed}
 
--- The word as a look tells it.
+-- The word as a look reads it.
 abbrev pub seen_word : Word → Seen
 seen_word (Wanted a) = seen.Wanted a
 seen_word (Held a) = seen.Held a
@@ -42,7 +42,7 @@ module _ {T : Type 0} where
   abbrev pub Takes : ℕ → SeatData T → Taken → SeatData T → Type 0
   Takes i v answer v' = (ends : List ℕ) × Decides i (after_looks i ends v) answer v'
 
-  -- What the seat knows, but for what it saw and what it learnt last.
+  -- What the seat knows, except what it saw and what it learnt last.
   abbrev pub known : SeatData T → SeatData T
   known v = record v { seen = []; learnt = None }
 

@@ -1,4 +1,4 @@
--- What each step tells the seat that makes it, over what the seat keeps for the rule.
+-- What the seat that makes a step learns, over what the seat keeps for the rule.
 use Rattle.std.specs.Prelude.{◌≡◌, ◌≢◌, ℕ, ◌+◌, ◌-◌, ◌*◌, ◌<◌, [], ◌∷◌, ◌++◌, Option, Some, None}
 use Rattle.atomic_table.specs.Table.{Step, Me, rest}
 use Rattle.fetch_board.specs.declared.seat_knowledge.SeatKnowledge.{SeatKnowledge}

@@ -20,7 +20,7 @@ pub(crate) fn vacant<T: Drop>(alloc: Global, items: usize) -> Result<Vec<Option<
     Ok(values)
 }
 
-// How many attempts the word of an item tells that was finished or spent.
+// How many attempts the word of an item has that was finished or spent.
 fn attempts_of(word: u64, tries: u32) -> u32
     requires { word ≢ 3 → word / 4 < tries }
     ensures spent { word ≡ 3 → result ≡ tries }
@@ -32,7 +32,7 @@ fn attempts_of(word: u64, tries: u32) -> u32
     }
 }
 
-// Takes each item's value out of its place, and the number of attempts that its word tells.
+// Takes each item's value out of its place, and the number of attempts that its word has.
 pub(crate) fn settle<T: Drop>(
     closed: &mut Closed<Option<T>, Global>,
     mut values: Vec<Option<T>>,

@@ -1,4 +1,4 @@
-/// What a claim came to: the attempt that the seat may now make, or what the item stood at.
+/// The result of a claim: the attempt that the seat may now make, or the state of the item.
 #[derive(Clone, Copy, Debug, PartialEq, Eq)]
 pub enum Taken {
     Yes { attempt: u32 },

@@ -1,10 +1,10 @@
--- What the seats of a phase know at the end, and what comes of an item.
+-- What the seats of a phase know at the end, and the result of an item.
 use Rattle.std.specs.Prelude.{◌≡◌, ℕ, ◌+◌, ◌<◌, [], Option, Some, None}
 use Rattle.fetch_board.specs.Counts.{items, pairs, triples, Has}
 use Rattle.fetch_board.specs.Seats.{BoardTerms, SeatData, IsSeatOf}
 
 module _ {T : Type 0} where
-  -- The seat holds and owes nothing, has passed every item, and knows what its attempts came to.
+  -- The seat holds and owes nothing, has passed every item, and knows the results of its attempts.
   pub record Knows (packet_at : ℕ → ℕ → Option T) (count : ℕ) (v : SeatData T) : Type 0 where
     pub holds : v.held ≡ []
     pub owes : v.owed ≡ []
@@ -18,7 +18,7 @@ module _ {T : Type 0} where
     pub share : v.shares ≡ 1
     pub knows : Knows packet_at count v
 
--- What comes of an item whose attempts bring what f says, where it has so many tries. It is what the
+-- The result of an item whose attempts bring what f says, where it has so many tries. It is what the
 -- first attempt brings that brings anything, and the number of attempts up to that one. Or it is none,
 -- and the number is that of the tries.
 abbrev pub IsFirst : {T : Type 0} → (ℕ → Option T) → ℕ → Option T → ℕ → Type 0

@@ -26,7 +26,7 @@ pub fn digest_workers(octets: u64, workers: u32) -> u32
 }
 
 /// The digests over the contents of publications that become whole, in their order, by at most so many workers. Each
-/// worker takes some that stand beside each other; where there are few octets, fewer workers do.
+/// worker takes some that are neighbours; where there are few octets, fewer workers do.
 pub fn digests<R: Threads + Sync>(
     rt: &R,
     alloc: Global,

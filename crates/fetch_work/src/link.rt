@@ -26,7 +26,7 @@ pub enum Lending<'p> {
 
 /// What lends packets that are asked for.
 ///
-/// What it answers is a function of what it holds, of the want and of the attempt. It takes no memory and can't fail.
+/// What it answers is a function of what it holds, of the want and of the attempt. It allocates nothing and can't fail.
 /// Threads may share it.
 pub trait Link {
     ghost answer: { Self → WantedPart → ℕ → Option (List ℕ) };
@@ -45,7 +45,7 @@ pub trait Link {
         }
     }
 
-    /// Whether an answer may be long in coming, so that even a few questions are better asked beside each other. It
+    /// Whether an answer may be long in coming, so that even a few questions are better asked at the same time. It
     /// changes no answer.
     fn may_wait(&self) -> bool {
         true

@@ -28,7 +28,7 @@ impl<'p, L: Link> Trial for LinkTrial<'p, L> {
     }
 }
 
-// Asks once for the part of a job, and checks what came.
+// Asks once for the part of a job, and checks the reply.
 fn try_job<'p, L: Link>(
     link: &'p L,
     job: &'p Job,

@@ -1,6 +1,6 @@
 use repo_object::Checked;
 
-/// What came of a phase: for each job the packet that came, if one did, and the number of attempts that were made.
+/// The results of a phase: for each job its packet, if one was received, and the number of attempts that were made.
 #[derive(Drop)]
 pub struct PhaseOutcome<'p> {
     pub parts: Vec<Option<Checked<'p>>>,

@@ -55,7 +55,7 @@ impl<T> Worker<T> {
 impl<'p> Worker<Checked<'p>> {
     /// Tries the jobs of a board, item `i` being job `i`, until none of them is left that is wanted.
     ///
-    /// It takes no memory. It makes at most one attempt for each item and each of its tries, and goes round the items
+    /// It allocates nothing. It makes at most one attempt for each item and each of its tries, and goes round the items
     /// at most once more than that.
     pub fn work<L: Link>(
         &mut self,

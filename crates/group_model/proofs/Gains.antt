@@ -89,7 +89,7 @@ module _ (ls : Logs) (j : ℕ) (old new : Member) (g : Gain ls old new) (s : IsS
       → is_wanted (plan_of ls new) t ≡ true
   wanted_after t h env = wanted_kept ls ls old new t (keeps ls old new g) refl h env
 
--- the same gain with other claims, machine or attempts
+-- the same gain with other claims, sync state or attempts
 pub same_gain : (ls : Logs) (old new other : Member) → other.known ≡ new.known → other.held ≡ new.held
     → other.hidden ≡ new.hidden → Gain ls old new → Gain ls old other
 same_gain ls old new other k h x g = record {

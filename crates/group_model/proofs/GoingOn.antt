@@ -128,7 +128,7 @@ then_lasts a b c x y = record {
       (y.members j (subst (λ (n : ℕ). j < n) (sym x.width) l));
 }
 
--- a change of claims, machine, processes or attempts alone
+-- a change of claims, sync state, processes or attempts alone
 lasts_beside : (m new : Member) → new.log ≡ m.log → new.known ≡ m.known → new.hidden ≡ m.hidden → new.held ≡ m.held
     → Lasts m new
 lasts_beside m new l k x h =

@@ -322,7 +322,7 @@ at_most n b l h = let a : n * b ≤ 16 * b = mul-le n b 16 b l (omega arith) in 
 pairs_of : (n : ℕ) → n ≤ 16 → n * (n - 1) ≤ 240
 pairs_of n l = let a : n * (n - 1) ≤ 16 * 15 = mul-le n (n - 1) 16 15 l (omega (arith, l)) in omega (arith, a)
 
--- after a settle, with machines that were reset or not
+-- after a settle, with sync states that were reset or not
 within_settled : (env : Environment) (s : ℕ) (w : World) (ms : List Member) → s ≤ 100000 → length w.members ≤ 16
     → HasSmallPackets env w → IsWithinSteps s w → logs_of ms ≡ logs w
     → ((j : ℕ) → IsMemberWithin (s + 1) (get_or ms j no_member))

@@ -1,4 +1,4 @@
--- The machine of each member follows the table of suppression.
+-- The sync state of each member follows the table of suppression.
 use Rattle.std.proofs.Common.{◌≡◌, inl, inr, ℕ, suc, zero, ◌+◌, ◌<◌, Bool, true, false, cond, List, [], ◌∷◌, ◌++◌}
 use Rattle.std.proofs.Common.{length, get_or, set, ltb, refl, sym, ap, ◌∙◌, subst, arith, Option, Some, None, Result}
 use Rattle.std.proofs.Common.{Ok, Err}
@@ -46,7 +46,7 @@ use Rattle.group_model.proofs.Lasting.{lasts}
 use Rattle.group_model.proofs.Runs.{sound_initial}
 use Rattle.svs_sync.specs.Suppression
 
--- what happened to a machine makes the second of the first
+-- what happened to a sync state makes the second of the first
 abbrev Makes : List Suppression.SyncEvent → Member → Member → Type 0
 Makes es old new = new.machine ≡ after_events_joined es old.machine
 
@@ -64,7 +64,7 @@ unfolding after_events_joined
 in_turn [] ys k = refl
 in_turn (x ∷ xs) ys k = in_turn xs ys (after_event_joined x k)
 
--- one member changes, by what happened to its machine
+-- one member changes, by what happened to its sync state
 makes_set : (w : World) (i : ℕ) (m : Member) (e : Suppression.SyncEvent) (j : ℕ) → j < length w.members
     → m.machine ≡ after_event_joined e (member w i).machine
     → Makes (only_at i j e) (member w j) (get_or (set w.members i m) j no_member)
@@ -87,7 +87,7 @@ makes_set w i m e j l h = elim (cases_Bool (i == j)) [
       ∙ none (member w j).machine)
 ]
 
--- one member changes, and its machine doesn't
+-- one member changes, and its sync state doesn't
 makes_beside : (ms : List Member) (i : ℕ) (m : Member) (j : ℕ) → m.machine ≡ (get_or ms i no_member).machine
     → Makes [] (get_or ms j no_member) (get_or (set ms i m) j no_member)
 makes_beside [] i m j h = sym (none no_member.machine)
@@ -173,7 +173,7 @@ makes_reset : (env : Environment) (w : World) (i : ℕ) (j : ℕ) (m : Member) �
 unfolding after_event_joined
 makes_reset env w i j m l e = makes_set w i m (reset w.time (drawn env w i)) j l e
 
--- a member stays as it is, which is what happened to its machine makes of it
+-- a member stays as it is, which is what happened to its sync state makes of it
 makes_same : (w : World) (i : ℕ) (e : Suppression.SyncEvent) (j : ℕ)
     → (member w i).machine ≡ after_event_joined e (member w i).machine → Makes (only_at i j e) (member w j) (member w j)
 makes_same w i e j h = elim (cases_Bool (i == j)) [
@@ -187,7 +187,7 @@ makes_same w i e j h = elim (cases_Bool (i == j)) [
       ∙ none (member w j).machine)
 ]
 
--- ---- what a timer says is what its machine makes of it
+-- ---- what a timer says is what its sync state makes of it
 
 abbrev IsDue : Fired → Type 0
 IsDue Early = ⊥

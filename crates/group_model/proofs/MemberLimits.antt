@@ -27,7 +27,7 @@ mem_change old new m n d a b l h = record {
   blocks = b;
 }
 
--- a change of neither machine, attempts nor processes
+-- a change of neither sync state, attempts nor processes
 pub mem_beside : (old new : ℕ) (m n : Member) → n.machine ≡ m.machine → n.attempts ≡ m.attempts
     → n.processes ≡ m.processes → old ≤ new → IsMemberWithin old m → IsMemberWithin new n
 mem_beside old new m n k a p l h = mem_change old new m n
@@ -37,7 +37,7 @@ mem_beside old new m n k a p l h = mem_change old new m n
     omega (arith, e))
     (λ i q e. h.blocks i q (sym (ap (λ (x : List (ℕ × Process)). value_of nat_cmp x i) p) ∙ e)) l h
 
--- a change of the machine, by at most one draw
+-- a change of the sync state, by at most one draw
 pub mem_machine : (s : ℕ) (m n : Member) → n.machine.draws ≤ m.machine.draws + 1 → n.attempts ≡ m.attempts
     → ((i : ℕ) (q : Process) → value_of nat_cmp n.processes i ≡ Some q → length (indexes q) ≤ 200) → IsMemberWithin s m
     → IsMemberWithin (s + 1) n

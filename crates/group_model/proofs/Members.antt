@@ -125,7 +125,7 @@ grown old new j m g own s = record {
 
 -- ---- what soundness doesn't speak of
 
--- a change of the machine and of insertion processes alone
+-- a change of the sync state and of insertion processes alone
 pub with_machine : (ls : Logs) (j : ℕ) (m : Member) (machine : SyncState) (processes : List (ℕ × Process)) (next : ℕ)
     → IsSoundMember ls j m → HeardConsistently ls machine.heard
     → IsSoundMember ls j (record m { machine = machine; processes = processes; next_process = next })

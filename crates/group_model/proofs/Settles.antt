@@ -333,7 +333,7 @@ pub member_gathered : (env : Environment) (w : World) (j : ℕ) → j < length w
     → member (after_gathering env w) j ≡ settled_member w (member w j)
 member_gathered env w j l = get_or-map (settled_member w) w.members j no_member no_member l
 
--- where nothing is hidden each catalogue is then the join of all publications, whatever the machine
+-- where nothing is hidden each catalogue is then the join of all publications, whatever the sync state
 catalogue_joined : (w : World) (j : ℕ) → IsSoundGroup w → j < length w.members
     → ((i : ℕ) → i < length w.members → (member w i).hidden ≡ [])
     → catalogue (logs w) (settled_member w (member w j)) ≡ join_of (logs w)

@@ -20,7 +20,7 @@ pub record BelongsInCatalogue (logs : Logs) (m : Member) (pair : Pair) : Type 0 
   pub held : (x : ℕ) → x ≤ count logs pair → member_holds m (part_of pair x) ≡ true
   pub not_withdrawn : HoldsNoWithdrawal logs m pair
 
--- Those are listed and no others, and none that the member has hidden.
+-- Those are listed and no others, and none that the member has deleted.
 pub record ListsRightly (w : World) (j : ℕ) (pair : Pair) : Type 0 where
   pub exactly : (lists pair (catalogue_at w j) ≡ true) ↔ BelongsInCatalogue (logs w) (member w j) pair
   pub not_hidden : has_deleted (member w j) pair ≡ true → lists pair (catalogue_at w j) ≡ false

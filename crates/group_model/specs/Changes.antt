@@ -12,7 +12,7 @@ use Rattle.repo_object.specs.Objects.{Post, shape_in}
 use Rattle.repo_process.specs.Processes.{Process, starting}
 use Rattle.group_model.specs.Member.{Member, gains, insert_keys, member_without_claims}
 
--- The machine is Steady again.
+-- The sync state is Steady again.
 abbrev pub resets : (draw time : ℕ) → Member → Member
 resets draw time m = record m { machine = steady_joined time draw m.machine }
 

@@ -1,4 +1,4 @@
--- What deletions hide.
+-- Which publications are deleted.
 use Rattle.std.specs.Prelude.{ℕ, ◌≡◌, ◌<◌, true, length, is_some}
 use Rattle.repo_plan.specs.Parts.{Pair}
 use Rattle.repo_object.specs.Objects.{offered}
@@ -15,7 +15,7 @@ pub record IsOffered (logs : Logs) (pair : Pair) : Type 0 where
   pub published : IsPublished logs pair
   pub object : is_some (offered (post_at logs pair)) ≡ true
 
--- Each hidden publication is one, and so no withdrawal is hidden.
+-- Each deleted publication is one, and so no withdrawal is deleted.
 abbrev pub OnlyObjectsDeleted : World → Type 0
 OnlyObjectsDeleted w = (j : ℕ) (pair : Pair) → j < length w.members → has_deleted (member w j) pair ≡ true
     → IsOffered (logs w) pair
@@ -24,7 +24,7 @@ OnlyObjectsDeleted w = (j : ℕ) (pair : Pair) → j < length w.members → has_
 abbrev pub BeginsWithObjectsDeleted : Type 0
 BeginsWithObjectsDeleted = (env : Environment) (n : ℕ) → OnlyObjectsDeleted (initial_world env n)
 
--- An event that is taken hides objects alone.
+-- An event that is taken deletes objects alone.
 abbrev pub StaysWithObjectsDeleted : Environment → World → Type 0
 StaysWithObjectsDeleted env w = (e : Event) → EventIsTaken env w e → OnlyObjectsDeleted w
     → OnlyObjectsDeleted (after_event env w e)

@@ -264,7 +264,7 @@ ThirdAttempts = Plays third 2 (
     ∷ []
     )
 
--- ---- what comes from outside
+-- ---- octets from outside
 
 -- Octets from outside: as a sync Interest, as a packet of a claimed part, and as an Interest.
 abbrev pub FromOutside : Type 0
@@ -430,7 +430,7 @@ Blocks = Plays plain_outside 1 (
     ∷ []
     )
 
--- What its publisher deleted before a settle comes to nobody, and is wanted still.
+-- What its publisher deleted before a settle is fetched by nobody, and is still wanted.
 abbrev pub DeletedBefore : Type 0
 DeletedBefore = Plays plain_outside 2 (
     (Publish 0 (whole doc abc), Published 1 1 1)
@@ -441,7 +441,7 @@ DeletedBefore = Plays plain_outside 2 (
     ∷ []
     )
 
--- ---- all are told of all, and nothing is wanted in the end
+-- ---- all are informed of all, and nothing is wanted in the end
 
 -- Every member is informed of the one publication, and the other one fetches it part by part.
 abbrev pub informed_of_all : List (Event × Reply) → List (Event × Reply)

@@ -45,7 +45,7 @@ abbrev pub AreQuiet : Environment → World → List Event → Type 0
 AreQuiet env w [] = Unit {0}
 AreQuiet env w (e ∷ es) = IsQuiet w e × AreQuiet env (after_event env w e) es
 
--- The event tells member j of all that p has published: a vector comes whose place p is the number of p's last
+-- The event informs member j of all that p has published: it hears a vector whose place p is the number of p's last
 -- publication.
 abbrev pub HearsAllInEvent : World → Event → ℕ → ℕ → Type 0
 HearsAllInEvent w (Event.Deliver k i) j p = (i ≡ j) × (slice_index (sent_at w k).vector p ≡ last_of (logs w) p)
@@ -53,17 +53,17 @@ HearsAllInEvent w (Event.Hear i (Some sync)) j p =
     (i ≡ j) × (exceeds_log w i sync ≡ false) × (slice_index sync.vector p ≡ last_of (logs w) p)
 HearsAllInEvent w _ j p = ⊥
 
--- An event of a list tells member j of all that p has published by then.
+-- An event of a list informs member j of all that p has published by then.
 abbrev pub HearsAllInRun : Environment → World → List Event → ℕ → ℕ → Type 0
 HearsAllInRun env w [] j p = ⊥
 HearsAllInRun env w (e ∷ es) j p = HearsAllInEvent w e j p ⊎ HearsAllInRun env (after_event env w e) es j p
 
--- Events that publish nothing, and that tell each member of all that each other has published.
+-- Events that publish nothing, and that inform each member of all that each other has published.
 pub record EachHearsAll (env : Environment) (w : World) (es : List Event) : Type 0 where
   pub quiet : AreQuiet env w es
   pub received : (j p : ℕ) → j < length w.members → p < length w.members → p ≢ j → HearsAllInRun env w es j p
 
--- Where all know of all from here on, and nothing is wanted or hidden in the end, each catalogue is the join of all
+-- Where all know of all from here on, and nothing is wanted or deleted in the end, each catalogue is the join of all
 -- publications, whatever else happens.
 abbrev pub JoinsWhereAllAreInformed : Environment → World → Type 0
 JoinsWhereAllAreInformed env w = (es : List Event) → EventsAreTaken env w es → EachHearsAll env w es →

@@ -83,7 +83,7 @@ abbrev pub StaysWithin : Type 0
 StaysWithin = (env : Environment) (steps : ℕ) (w : World) (e : Event) → steps ≤ 100000 → length w.members ≤ 16
     → HasSmallPackets env w → IsInRange e → IsWithinSteps steps w → IsWithinSteps (steps + 1) (after_event env w e)
 
--- So it is after a settle but for the machines.
+-- So it is after a settle, except the sync states.
 abbrev pub GatheringStaysWithin : Type 0
 GatheringStaysWithin = (env : Environment) (steps : ℕ) (w : World) → steps ≤ 100000 → length w.members ≤ 16
     → HasSmallPackets env w → IsWithinSteps steps w → IsWithinSteps (steps + 1) (after_gathering env w)

@@ -1,4 +1,4 @@
--- The suppression machines of a group's members, over the lists of vectors that they heard.
+-- The sync states of a group's members, over the lists of vectors that they heard.
 use Rattle.std.specs.Prelude.{ℕ, ◌≡◌, ◌<◌, List, [], ◌∷◌, ◌++◌, length, Option, Some, None, ◌==◌, if◌then◌else◌}
 use Rattle.svs_sync.specs.Suppression.{periodic, fires}
 use Rattle.svs_sync.specs.Suppression.SyncEvent.{published, heard, fired, reset}
@@ -11,11 +11,11 @@ use Rattle.group_model.specs.Steps.{drawn, timer_at, exceeds_log, block_at, afte
 use Rattle.group_model.specs.Refusals.{EventsAreTaken}
 use Rattle.svs_sync.specs.Suppression
 
--- What happens to the machine of member j where something happens to that of member i.
+-- What happens to the sync state of member j where something happens to that of member i.
 abbrev pub only_at : (i j : ℕ) → Suppression.SyncEvent → List Suppression.SyncEvent
 only_at i j e = if i == j then e ∷ [] else []
 
--- The machine of member i hears a vector.
+-- The sync state of member i hears a vector.
 abbrev pub hears_of : Environment → World → (i j : ℕ) → List ℕ → List Suppression.SyncEvent
 hears_of env w i j received = only_at i j (heard w.time received (member w i).known (drawn env w i))
 
@@ -24,12 +24,12 @@ abbrev pub happens_when_read : Environment → World → (i j : ℕ) → Option 
 happens_when_read env w i j None = []
 happens_when_read env w i j (Some sync) = if exceeds_log w i sync then [] else hears_of env w i j sync.vector
 
--- The machine of a member whose insertion publishes an object by a block.
+-- The sync state of a member whose insertion publishes an object by a block.
 abbrev pub happens_in_block : Environment → World → (i j : ℕ) → BlockState → List Suppression.SyncEvent
 happens_in_block env w i j (Whole p) = only_at i j (published w.time (drawn env w i))
 happens_in_block env w i j _ = []
 
--- What happens to the machine of a member in an event of the group.
+-- What happens to the sync state of a member in an event of the group.
 abbrev pub happens_to : Environment → World → ℕ → Event → List Suppression.SyncEvent
 happens_to env w j (Event.Publish i o) = only_at i j (published w.time (drawn env w i))
 happens_to env w j (Event.Withdraw i seq) = only_at i j (published w.time (drawn env w i))
@@ -47,7 +47,7 @@ abbrev pub happens_over : Environment → World → ℕ → List Event → List 
 happens_over env w j [] = []
 happens_over env w j (e ∷ es) = happens_to env w j e ++ happens_over env (after_event env w e) j es
 
--- The machine of each member is what the table makes of all that happened to it, with the join of the vectors heard for
+-- The sync state of each member is what the table makes of what happened to it, with the join of the vectors heard for
 -- their list, and so is what its timer says.
 pub record FollowsTable (env : Environment) (w : World) (es : List Event) (n j : ℕ)
     (first : Suppression.SyncMember) : Type 0 where
@@ -57,12 +57,12 @@ pub record FollowsTable (env : Environment) (w : World) (es : List Event) (n j :
       timer_at last j ≡ fires last.time (member last j).known
       (Suppression.after_sync_events (happens_over env w j es) first)
 
--- It goes on so from a machine that is as the table has it.
+-- It goes on so from a sync state that is as the table has it.
 abbrev pub MachinesFollowTable : Environment → World → Type 0
 MachinesFollowTable env w = (es : List Event) (n j : ℕ) (first : Suppression.SyncMember) → EventsAreTaken env w es
     → j < length w.members → (member w j).machine ≡ kept n first → FollowsTable env w es n j first
 
--- A machine begins Steady, with the periodic deadline of its first draw.
+-- A sync state begins Steady, with the periodic deadline of its first draw.
 abbrev pub first_machine : Environment → ℕ → Suppression.SyncMember
 first_machine env j = record { heard = None; deadline = periodic (env.draw j 0); draws = 1 }
 
@@ -71,7 +71,7 @@ abbrev pub MachinesBegin : Type 0
 MachinesBegin = (env : Environment) (n j : ℕ) → j < n
     → (member (initial_world env n) j).machine ≡ kept n (first_machine env j)
 
--- So do the machines of every run from the beginning of a group.
+-- So do the sync states of every run from the beginning of a group.
 abbrev pub ReachedMachinesFollowTable : Type 0
 ReachedMachinesFollowTable = (env : Environment) (n : ℕ) (es : List Event) (j : ℕ)
     → EventsAreTaken env (initial_world env n) es

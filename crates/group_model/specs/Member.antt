@@ -1,4 +1,4 @@
--- What one member of a group has published, knows, holds, hides and claims.
+-- What one member of a group has published, knows, holds, has deleted and claims.
 use Rattle.std.specs.Prelude.{ℕ, ◌+◌, Bool, not, List, [], ◌∷◌, map, filter, Option, unwrap_or, ◌==◌, ◌&&◌}
 use Rattle.std.specs.Prelude.{if◌then◌else◌}
 use Rattle.std.specs.List.{list_all, list_any}
@@ -65,7 +65,7 @@ abbrev pub knows_withdrawn : List Publication → Member → Pair → Bool
 knows_withdrawn publications m pair =
     list_any (λ q. withdraws pair q && member_holds m (part_of (pair_in q) 0)) publications
 
--- An object that is wholly held, and of which no withdrawal is known.
+-- An object that is held whole, and of which no withdrawal is known.
 abbrev pub is_listed : List Publication → Member → Publication → Bool
 is_listed publications m p = is_object p && (holds_all m p && not (knows_withdrawn publications m (pair_in p)))
 
@@ -92,14 +92,14 @@ insert_keys (t ∷ ts) held = insert_keys ts (insert_key part_cmp t held)
 abbrev pub gains : List Part → Member → Member
 gains ts m = record m { held = insert_keys ts m.held }
 
--- A publication is hidden for good, and none of its parts is held.
+-- A publication is deleted for good, and none of its parts is held.
 abbrev pub deletes_publication : Pair → Member → Member
 deletes_publication pair m = record m {
   held = filter (λ t. not (is_in pair t)) m.held;
   hidden = insert_key pair_cmp pair m.hidden;
 }
 
--- It hides these publications.
+-- It deletes these publications.
 abbrev pub deletes_all : List Publication → Member → Member
 deletes_all [] m = m
 deletes_all (p ∷ ps) m = deletes_all ps (deletes_publication (pair_in p) m)

@@ -8,7 +8,7 @@ use Rattle.group_model.specs.Member.{plan_of, catalogue, Member}
 abbrev pub KnowsAll : Logs → List ℕ → Type 0
 KnowsAll logs known = (p : ℕ) → p < length logs → last_of logs p ≤ slice_index known p
 
--- A member that knows of all publications, hides nothing and wants nothing lists their join.
+-- A member that knows of all publications, has deleted nothing and wants nothing lists their join.
 abbrev pub JoinsByItself : Type 0
 JoinsByItself = (logs : Logs) (m : Member) → KnowsAll logs m.known → m.hidden ≡ [] → wanted (plan_of logs m) ≡ []
     → catalogue logs m ≡ join_of logs

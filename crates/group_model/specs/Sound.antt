@@ -52,12 +52,12 @@ pub record IsHeldSoundly (logs : Logs) (vector : List ℕ) (held : List Part) (t
   pub with_record : contains part_cmp held (record_of t) ≡ true
   pub with_parent : contains part_cmp held (parent (shape_at logs (pair_of t)) t) ≡ true
 
--- A hidden publication is known, and no part of it is held.
+-- A deleted publication is known, and no part of it is held.
 pub record IsDeletedSoundly (m : Member) (pair : Pair) : Type 0 where
   pub known : IsKnown m.known pair
   pub none_held : (x : ℕ) → member_holds m (part_of pair x) ≡ false
 
--- A member, of this number. Its own publications are hidden or wholly held; a claimed part is wanted; and two fetchers
+-- A member, of this number. Its own publications are deleted or held whole; a claimed part is wanted; and two fetchers
 -- claim different parts.
 pub record IsSoundMember (logs : Logs) (j : ℕ) (m : Member) : Type 0 where
   pub width : length m.known ≡ length logs

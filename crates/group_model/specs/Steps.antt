@@ -70,7 +70,7 @@ exceeds_log w j sync = nat_lt (length (member w j).log) (slice_index sync.vector
 
 -- ---- parts that come
 
--- What came passes the checks of the claimed part.
+-- The response passes the checks of the claimed part.
 abbrev pub passes_checks : Response → Bool
 passes_checks Nothing = false
 passes_checks Its = true
@@ -96,7 +96,7 @@ after_part env w j f t = record (with_member w j (takes f t (member w j))) {
   tally = record w.tally { parts = w.tally.parts + 1; octets = w.tally.octets + env.size (logs w) t };
 }
 
--- The claim is over where what came for it passes its checks.
+-- The claim is over where the response to it passes its checks.
 abbrev pub after_response : Environment → World → ℕ → ℕ → Option Part → Response → World
 after_response env w j f None response = w
 after_response env w j f (Some t) Nothing = w
@@ -109,7 +109,7 @@ after_response env w j f (Some t) Another = after_part env w j f t
 abbrev pub settled_vector : World → List ℕ
 settled_vector w = join_all (map (λ m. m.known) w.members)
 
--- A part of a publication that is known then and isn't hidden, which someone holds, with its record, and which isn't
+-- A part of a publication that is known then and isn't deleted, which someone holds, with its record, and which isn't
 -- held yet.
 abbrev pub is_gained : World → Member → Part → Bool
 is_gained w m t =
@@ -117,15 +117,15 @@ is_gained w m t =
     && (not (has_deleted m (pair_of t))
     && (someone_holds w.members t && (someone_holds w.members (record_of t) && not (member_holds m t))))
 
--- The parts that come to a member in a settle, in order.
+-- The parts that a member gets in a settle, in order.
 abbrev pub new_parts : World → Member → List Part
 new_parts w m = filter (is_gained w m) (all_parts (logs w))
 
--- How many parts come to all members.
+-- How many parts all members get.
 abbrev pub settle_new_parts : World → ℕ
 settle_new_parts w = sum_by (λ m. length (new_parts w m)) w.members
 
--- What it makes of a member, but for its machine: the member knows what all know, its claims end, and the new parts
+-- What it makes of a member, except its sync state: the member knows what all know, its claims end, and the new parts
 -- come.
 abbrev pub settled_member : World → Member → Member
 settled_member w m = record (gains (new_parts w m) (member_without_claims m)) { known = settled_vector w }
@@ -253,16 +253,16 @@ module _ (env : Environment) where
     tally = record w.tally { delivered = w.tally.delivered + 1 };
   }
 
-  -- Octets that are refused, or that tell too much, change nothing.
+  -- Octets that are refused, or that have too great a number, change nothing.
   abbrev pub after_hear : World → ℕ → Option SyncInterest → World
   after_hear w j None = w
   after_hear w j (Some sync) = if exceeds_log w j sync then w else after_deliver w j sync.vector
 
-  -- A member's machine is Steady again.
+  -- A member's sync state is Steady again.
   abbrev pub after_reset : World → ℕ → World
   after_reset w j = with_member w j (resets (drawn w j) w.time (member w j))
 
-  -- A timer that is due resets its machine, and sends where it has something to send.
+  -- A timer that is due resets its sync state, and sends where it has something to send.
   abbrev pub after_fire : World → ℕ → Fired → World
   after_fire w j Early = w
   after_fire w j Quiet = after_reset w j
@@ -272,7 +272,7 @@ module _ (env : Environment) where
   abbrev pub after_restart : World → ℕ → World
   after_restart w j = with_member w j (restarts (drawn w j) w.time (member w j))
 
-  -- A settle, but for the machines.
+  -- A settle, except the sync states.
   abbrev pub after_gathering : World → World
   after_gathering w = record w {
     members = map (settled_member w) w.members;
@@ -284,12 +284,12 @@ module _ (env : Environment) where
     };
   }
 
-  -- The machines of the members from a member on are reset, each with its next draw.
+  -- The sync states of the members from a member on are reset, each with its next draw.
   abbrev pub reset_each : (time j : ℕ) → List Member → List Member
   reset_each time j [] = []
   reset_each time j (m ∷ ms) = resets (env.draw j m.machine.draws) time m ∷ reset_each time (j + 1) ms
 
-  -- All machines are reset.
+  -- All sync states are reset.
   abbrev pub after_resets : World → World
   after_resets w = record w { members = reset_each w.time 0 w.members }
 
@@ -344,7 +344,7 @@ module _ (env : Environment) where
 
 -- ---- replies
 
--- The mode of a member's machine.
+-- The mode of a member's sync state.
 abbrev pub mode_at : World → ℕ → Mode
 mode_at w j = mode_of (member w j).machine.heard
 

@@ -18,7 +18,7 @@ pub record IsListedByHeld (logs : Logs) (m : Member) (t : Part) : Type 0 where
   pub counted : t.part ≤ count logs (pair_of t)
   pub with_parent : member_holds m (parent (shape_at logs (pair_of t)) t) ≡ true
 
--- A record, or such a part, of a known publication that isn't hidden, and that isn't held.
+-- A record, or such a part, of a known publication that isn't deleted, and that isn't held.
 pub record IsWantedPart (logs : Logs) (m : Member) (t : Part) : Type 0 where
   pub known : IsKnown m.known (pair_of t)
   pub part : (t.part ≡ 0) ⊎ IsListedByHeld logs m t

@@ -1,6 +1,6 @@
 ghost use Rattle.group_model.specs.OneMember.{JoinsByItself};
 
-/// Over any publications, a member that knows of all of them, hides nothing and wants nothing lists their join. So it
+/// Over any publications, a member that knows of all, has deleted nothing and wants nothing lists their join. So it
 /// is for a member that was taken out of its group, and whatever the others are.
 pub fn one_member_joins_by_itself()
     ensures joins { JoinsByItself }

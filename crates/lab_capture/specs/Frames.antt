@@ -248,7 +248,7 @@ claim_frames g w None = []
 claim_frames g w (Some c) =
     if nat_lt c.asker (length w.members) && nat_lt c.asked (length w.members) then want_frames g w c else []
 
--- What came of a part that a member asked all for: the Interest, and the packet from its publisher; nothing where it
+-- The packets of a part that a member asked all for: the Interest, and the packet from its publisher; nothing where it
 -- isn't held.
 abbrev pub came_if : World → ℕ → Asked → Option (List ℕ) → List Framed
 came_if w m a None = []
@@ -262,7 +262,7 @@ came_if w m a (Some packet) =
 abbrev pub came : GroupKeys → World → ℕ → Asked → List Framed
 came g w m a = came_if w m a (packet_of g w m a.part)
 
--- What came of a fetch, in order of the parts.
+-- The packets of a fetch, in order of the parts.
 abbrev pub fetch_frames : GroupKeys → World → Option Fetched → List Framed
 fetch_frames g w None = []
 fetch_frames g w (Some f) =
@@ -287,7 +287,7 @@ interest_named t packet (Ok d) =
 abbrev pub interest_for : Part → List ℕ → Option (List ℕ)
 interest_for t packet = interest_named t packet (data_of packet)
 
--- A packet came to who asked all for it, and the publisher answered.
+-- A packet reached who asked all for it, and the publisher answered.
 abbrev pub gained : World → Station → Part → List ℕ → List Framed
 gained w who t packet =
     sent_if w who station.AllMembers (interest_for t packet)
@@ -320,7 +320,7 @@ mirror_parts g w ms h =
     then flat_map (mirror_part g w (mirror_of ms h.member) h.member h.held) (stored_by w (mirror_of ms h.member))
     else []
 
--- A sync Interest comes to a station of a number, if there is one.
+-- A sync Interest reaches a station of a number, if there is one.
 abbrev pub sync_to_some : GroupKeys → World → ℕ → (ℕ → Station) → Option ℕ → List Framed
 sync_to_some g w k kind None = []
 sync_to_some g w k kind (Some i) = sync_to g w (kind i) k
@@ -334,7 +334,7 @@ found (Err fault) = None
 abbrev pub served_by : GroupKeys → World → ℕ → List ℕ → Option (List ℕ)
 served_by g w m octets = found (served octets (published_packets g (logs w) (member w m).held))
 
--- Octets from outside come to a member.
+-- Octets from outside reach a member.
 abbrev pub brought : World → List ℕ → Option ℕ → List Framed
 brought w octets None = []
 brought w octets (Some m) = sent_now w station.Outside (station.Member m) octets ∷ []
@@ -362,7 +362,7 @@ abbrev pub said : Declared → GroupKeys → World → ℕ → Option Stated →
 said d g w mirrors None = []
 said d g w mirrors (Some s) = said_of d g w mirrors s.verb s.values
 
--- What came of a claim, of a fetch and in a settle.
+-- The packets of a claim, of a fetch and of a settle.
 abbrev pub gains : GroupKeys → World → Known → List Framed
 gains g w known =
     claim_frames g w known.claim ++ (fetch_frames g w known.fetch ++ flat_map (new_parts g w) known.holders)

@@ -170,7 +170,7 @@ pub(crate) fn is_member(world: &World, m: u32) -> bool
     (m as usize) < world.members()
 }
 
-// The sync Interest of a number comes to a member.
+// The sync Interest of a number reaches a member.
 fn put_delivered(out: &mut Vec<u8>, world: &World, k: u32, m: Option<u32>) -> Result<(), AllocError>
     requires { IfSome m (λ m. m < length world.now.members) }
     ensures { OnOk result (out.new.items ≡ out.old.items
@@ -194,7 +194,7 @@ fn put_mirrored(out: &mut Vec<u8>, world: &World, k: u32, i: Option<u32>) -> Res
     }
 }
 
-// Octets from outside come to a member.
+// Octets from outside reach a member.
 fn put_brought(
     out: &mut Vec<u8>,
     world: &World,
@@ -314,7 +314,7 @@ pub(crate) fn put_frames(
     put_new_stored(out, world, &known.mirrors)
 }
 
-// What came of a claim, of a fetch and in a settle.
+// The packets of a claim, of a fetch and of a settle.
 fn put_gains(out: &mut Vec<u8>, world: &World, known: &KnownBefore) -> Result<(), AllocError>
     ensures { OnOk result (out.new.items ≡ out.old.items
         ++ frames_text (gains world.now.keys (world_of world.now) (known_as known.now))) }
@@ -324,7 +324,7 @@ fn put_gains(out: &mut Vec<u8>, world: &World, known: &KnownBefore) -> Result<()
     put_new_parts(out, world, &known.holders)
 }
 
-// What came of a fetch, in order of the parts.
+// The packets of a fetch, in order of the parts.
 fn put_fetch(out: &mut Vec<u8>, world: &World, fetch: &Option<Fetch>) -> Result<(), AllocError>
     ensures { OnOk result (out.new.items ≡ out.old.items
         ++ frames_text (fetch_frames world.now.keys (world_of world.now) (option_map fetched fetch.now))) }
@@ -348,7 +348,7 @@ fn put_all(out: &mut Vec<u8>, world: &World, m: u32, jobs: &[Job]) -> Result<(),
     Ok(())
 }
 
-// What came of a part that a member asked all for.
+// The packets of a part that a member asked all for.
 fn put_came(out: &mut Vec<u8>, world: &World, m: u32, job: &Job) -> Result<(), AllocError>
     requires { m < length world.now.members }
     ensures { OnOk result (out.new.items ≡ out.old.items

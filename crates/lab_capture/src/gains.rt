@@ -1,4 +1,4 @@
-// What came to members in a settle.
+// The packets that members got in a settle.
 ghost use Rattle.std.specs.Prelude.{◌≡◌, ◌<◌, ◌++◌, length, map, OnOk, Some};
 ghost use Rattle.std.specs.List.{flat_map};
 ghost use Rattle.bench_world.specs.Worlds.{world_of};
@@ -80,7 +80,7 @@ fn put_new_part(
     }
 }
 
-// A packet came to who asked for it, if there is its publisher.
+// A packet reached who asked for it, if there is its publisher.
 pub(crate) fn put_gained_if(
     out: &mut Vec<u8>,
     world: &World,
@@ -99,7 +99,7 @@ pub(crate) fn put_gained_if(
     }
 }
 
-// A packet came to who asked all for it, and the publisher answered.
+// A packet reached who asked all for it, and the publisher answered.
 fn put_gained(
     out: &mut Vec<u8>,
     world: &World,

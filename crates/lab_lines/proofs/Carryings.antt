@@ -51,7 +51,7 @@ failing_lines f env m a b status input rest read no_end = record {
   bounded = λ end. absurd (no_end end);
 }
 
--- a line that is only begun can't be judged yet
+-- a line that is only begun can't be evaluated yet
 begun_judged : (held : List ℕ) → LineIsBegun held → filter can_be_evaluated (lines held) ≡ []
 unfolding lines
 begun_judged [] begun = refl

@@ -147,7 +147,7 @@ module _ (prefix : List ℕ) (long : IsTooLong prefix) where
       ap (take 32769) t.is ∙ take-append-le 32769 prefix t.rest size
       ∙ sym (ap (take 32769) (rw (not_ended prefix long.free) refl))
 
-  -- and judged
+  -- and evaluated
   pub long_judged : (more : List ℕ) → can_be_evaluated (prefix ++ more) ≡ true
   long_judged more = or_right (has_feed (prefix ++ more)) (ltb 32768 (length (prefix ++ more)))
       (lt-ltb 32768 (length (prefix ++ more)) (omega (arith, length-append prefix more, long.long)))

@@ -1,4 +1,4 @@
--- A form over a transcript: each line is judged as it was, and the notes after it are its report.
+-- A form over a transcript: each line is evaluated as it was, and the notes after it are its report.
 use Rattle.std.proofs.Common.{◌≡◌, ℕ, ◌+◌, ◌<◌, ◌≤◌, true, false, not, leb, ltb, List, [], ◌∷◌, ◌++◌, map}
 use Rattle.std.proofs.Common.{length, take}
 use Rattle.std.proofs.Common.{Some, None, refl, sym, ap, subst, ◌∙◌, length-append, arith, inl}
@@ -210,7 +210,7 @@ module _ (line : List ℕ) (w : IsWhole line) where
   short_again : length (without_feed line) ≤ 32768 → shown_again_line line ≡ line
   short_again short = again_is ∙ shown_of_whole line w (omega (arith, short))
 
-  -- it is judged as the line was
+  -- it is evaluated as the line was
   module _ (env : RunEnvironment) (p q : Passed) (same : q.reached ≡ p.reached) (ls more : List (List ℕ))
       (room : Room p.lines p.octets (line ∷ ls)) (again : Room q.lines q.octets (shown_again_line line ∷ more)) where
     long_again : 32768 < length (without_feed line) → 32768 < length (without_feed (shown_again_line line))

@@ -32,7 +32,7 @@ use Rattle.lab_lines.specs.Folding.{most_lines, most_octets}
 use Rattle.lab_lines.specs.Folding.{ran_from, ran_over, with_text}
 use Rattle.lab_lines.specs.Written.{WritesLines, can_be_evaluated}
 
--- So many lines and octets were passed, and the script's lines among them came to this.
+-- So many lines and octets were passed, and this is the result of the script's lines among them.
 abbrev pub passed : Totals → Reached → Passed
 passed totals reached = record { lines = totals.lines; octets = totals.octets; reached = reached }
 
@@ -51,7 +51,7 @@ pub record CountsFaults (WriteFailed : Type 0) (old new : ℕ) : Type 0 where
 abbrev pub ran : {M : Type 0} → List ℕ → M → Ending → ℕ → Ran M
 ran text form ending read = record { text = text; form = form; ending = ending; read = read }
 
--- The statuses of a form that didn't come to the end of its text, where the source did not fail.
+-- The statuses of a form that didn't write its text to the end, where the source did not fail.
 abbrev pub IsFailing : LabStatus → Type 0
 IsFailing Done = ⊥
 IsFailing Usage = ⊥
@@ -174,7 +174,7 @@ pub record HasRead (old new : List ℕ) : Type 0 where
   pub octets : List ℕ
   pub are : old ≡ octets ++ new
 
--- The statuses of a form that read notes and didn't come to their end.
+-- The statuses of a form that read notes and not to their end.
 abbrev pub IsUnread : LabStatus → Type 0
 IsUnread Done = ⊥
 IsUnread Usage = ⊥
@@ -243,7 +243,7 @@ pub record Carried {M : Type 0} (f : FormOf M) (env : RunEnvironment) (begun : M
       → ran_over f env begun (done ++ others) ≡ with_text text (ran_from f env p m others)
   pub gained : GainsText old new text
 
--- What comes of a form over a known input.
+-- The result of a form over a known input.
 pub record RunEnds {M : Type 0} (f : FormOf M) (env : RunEnvironment) (begun : M) (old new : Option (List ℕ))
     (status : LabStatus) (input rest : List ℕ) : Type 0 where
   pub ends : Ends (form_outcome f env begun input) old new status

@@ -60,7 +60,7 @@ abbrev pub fits : ℕ → ℕ → List ℕ → Bool
 fits lines octets line = nat_lt lines most_lines
     && (nat_le (octets + length line) most_octets && nat_le (length (without_feed line)) line_octets)
 
--- How many lines and octets of the input were passed, and what the script's lines among them came to.
+-- How many lines and octets of the input were passed, and the result of the script's lines among them.
 pub record Passed : Type 0 where
   pub lines : ℕ
   pub octets : ℕ
@@ -82,7 +82,7 @@ after_line p line report next = record {
   reached = reached_after p.reached line report next;
 }
 
--- The next line is a note, or a line of the script that is judged so.
+-- The next line is a note, or a line of the script with this verdict.
 pub data NextLine : Type 0 where
   noted : NextLine
   scripted : Verdict → NextLine
@@ -128,15 +128,15 @@ stops f p m line others at ending = record {
   read = p.lines + 1;
 }
 
--- A line that was taken, with its report and what the lines up to it came to.
+-- A line that was taken, with its report and the result of the lines up to it.
 abbrev pub taken_line : Passed → List ℕ → List ℕ → State → Lined
 taken_line p line report next = lined (p.reached.lines + 1) (shown_text line) report (Some next)
 
--- A line at which the script stops, and what is reported of that.
+-- A line at which the script stops, and its report.
 abbrev pub stopping_line : Passed → List ℕ → List ℕ → Lined
 stopping_line p line report = lined (p.reached.lines + 1) (shown_text line) report None
 
--- A line of the script that is judged so, and then the others. A line that no row judges would end the script as
+-- A line of the script with this verdict, and then the others. A line that no row evaluates would end the script as
 -- refused under 0, which is the number of no refusal.
 abbrev pub ran_scripted : {M : Type 0} → FormOf M → (Passed → M → Ran M) → Passed → M → List ℕ → List (List ℕ) → Verdict
     → Ran M
@@ -172,13 +172,13 @@ ran_from f env p m (line ∷ others) =
 abbrev pub ran_over : {M : Type 0} → FormOf M → RunEnvironment → M → List (List ℕ) → Ran M
 ran_over f env m input_lines = ran_from f env nothing_passed m input_lines
 
--- What comes of a form at the end.
+-- The result of a form at the end.
 abbrev pub outcome_of : {M : Type 0} → FormOf M → Ran M → Outcome
 outcome_of f ran = record {
   text = ran.text ++ (f.end ran.form ran.ending).text;
   status = (f.end ran.form ran.ending).status;
 }
 
--- What comes of a form over an input.
+-- The result of a form over an input.
 abbrev pub form_outcome : {M : Type 0} → FormOf M → RunEnvironment → M → List ℕ → Outcome
 form_outcome f env m input = outcome_of f (ran_over f env m (lines input))

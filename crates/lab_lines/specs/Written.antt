@@ -23,7 +23,7 @@ Known (Some input) (Some rest) P = P input rest
 abbrev pub taken : List ℕ → List ℕ → List ℕ
 taken input rest = take (length input - length rest) input
 
--- A line that can be judged: its line feed is there, or it is too long, whatever follows.
+-- A line that can be evaluated: its line feed is there, or it is too long, whatever follows.
 abbrev pub can_be_evaluated : List ℕ → Bool
 can_be_evaluated line = has_feed line || nat_lt line_octets (length line)
 

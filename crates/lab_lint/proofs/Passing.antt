@@ -1,4 +1,4 @@
--- A line that was judged is passed.
+-- A line that was evaluated is passed.
 use Rattle.std.proofs.Common.{◌≡◌, ◌+◌, Bool, true, false, List, ℕ, refl}
 use Rattle.script_lang.specs.Checking.{Declared}
 use Rattle.script_lang.specs.Lines.{line_of}

@@ -1,4 +1,4 @@
--- What is written of an input: each line of its script that is refused, as it is judged after the lines that weren't.
+-- What is written of an input: each line of its script that is refused, evaluated after those that weren't.
 use Rattle.std.specs.Prelude.{ℕ, ◌+◌, ◌-◌, ◌==◌, Bool, ◌&&◌, Option, Some, None, Result, Ok, Err, List, [], ◌∷◌, ◌++◌}
 use Rattle.std.specs.Prelude.{codes, decimal, length, nat_le, nat_lt, take, if◌then◌else◌}
 use Rattle.script_lang.specs.declared.line_fault.LineFault.{LineFault}
@@ -17,7 +17,7 @@ use Rattle.lab_lint.specs.Columns.{body_of}
 use Rattle.lab_lint.specs.Findings.{Finding, check_finding, finding_text, input_finding, line_finding, most_lines}
 use Rattle.lab_lint.specs.Findings.{most_octets, script_finding}
 
--- What the lines so far came to: how many they are, notes among them, and how many octets they have; how many of them
+-- The result of the lines so far: how many they are, notes among them, and how many octets they have; how many of them
 -- are the script's; how many of these weren't refused, how many octets those have, and what they declared.
 pub record Passed : Type 0 where
   pub lines : ℕ
@@ -61,7 +61,7 @@ fits p line = nat_lt p.lines most_lines && nat_le (p.octets + length line) most_
 abbrev pub is_within_script : Passed → List ℕ → Bool
 is_within_script p line = nat_lt p.taken script_lines && nat_le (p.script + length line) script_octets
 
--- A note. One that is longer than a line may be is judged as a line.
+-- A note. One that is longer than a line may be is evaluated as a line.
 abbrev pub is_short_note : List ℕ → Bool
 is_short_note line = is_note line && nat_le (length (without_feed line)) line_octets
 
@@ -70,18 +70,18 @@ pub data Evaluated : Type 0 where
   line_refused : Finding → Evaluated
   line_taken : Declared → Evaluated
 
--- A line that can be read is judged by what the lines before it declared.
+-- A line that can be read is evaluated by what the lines before it declared.
 abbrev pub checked : Declared → Stated → List ℕ → Result Declared CheckFault → Evaluated
 checked d s body (Ok after) = line_taken after
 checked d s body (Err fault) = line_refused (check_finding fault d s body)
 
--- A line is judged by what it reads as.
+-- A line is evaluated by what it reads as.
 abbrev pub read : Declared → List ℕ → Result (Option Stated) LineFault → Evaluated
 read d line (Ok None) = line_taken d
 read d line (Ok (Some s)) = checked d s (body_of line) (after_line d s)
 read d line (Err fault) = line_refused (line_finding fault line)
 
--- A line is judged within the limits of a script.
+-- A line is evaluated within the limits of a script.
 abbrev pub evaluated : Passed → List ℕ → Evaluated
 evaluated p line = if is_within_script p line then read p.declared line (line_of line) else line_refused script_finding
 
@@ -101,7 +101,7 @@ linted text number taken = record { text = text; number = number; taken = taken 
 abbrev pub with_text : List ℕ → Linted → Linted
 with_text text l = linted (text ++ l.text) l.number l.taken
 
--- What is written of a line that is judged so, and of the lines after it.
+-- What is written of a line with this verdict, and of the lines after it.
 abbrev pub linted_line : (Passed → Linted) → Passed → List ℕ → Evaluated → Linted
 linted_line others p line (line_refused f) = with_text (finding_text (p.number + 1) f) (others (after_refused p line))
 linted_line others p line (line_taken d) = others (after_taken p line d)

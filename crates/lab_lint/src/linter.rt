@@ -16,7 +16,7 @@ use script_lang::{CheckFault, LINES_LIMIT, Line, LineFault, SCRIPT_LIMIT, Words,
 use std::alloc::{AllocError, Global};
 use std::marker::Model;
 
-// What the lines so far came to.
+// The result of the lines so far.
 #[derive(Drop)]
 pub(crate) struct Linter {
     alloc: Global,

@@ -98,7 +98,7 @@ fn lint_lines(alloc: Global, octets: &[u8], out: &mut Vec<u8>) -> Result<Count, 
     })
 }
 
-// Whether a line is a note. One that is longer than a line may be is judged as a line.
+// Whether a line is a note. One that is longer than a line may be is evaluated as a line.
 fn is_short_note(line: &[u8]) -> bool
     ensures { result ≡ is_short_note line.now }
 {

@@ -117,7 +117,7 @@ answer row d line report =
     then arrow false row (member_column d (word_at 3 line)) (member_column d (word_at 1 report)) (codes "Data") []
     else []
 
--- How many parts came of those that were planned.
+-- How many parts were fetched of those that were planned.
 abbrev pub fetch : ℕ → Option ℕ → List ℕ → List ℕ
 fetch row column report =
     marked symbol.Fetch row column (word_at 5 report) (codes " of ") (word_at 3 report)

@@ -1,4 +1,4 @@
--- How stories end, line by line.
+-- How runs end, line by line.
 use Rattle.std.proofs.Common.{◌≡◌, ℕ, ◌+◌, Bool, true, false, List, [], ◌∷◌, length, Result, Ok, Err, IfOk, refl, sym}
 use Rattle.std.proofs.Common.{ap}
 use Rattle.std.proofs.Common.{subst, ◌∙◌, arith}
@@ -24,7 +24,7 @@ pub if_ok : {A E : Type 0} (P Q : A → Type 0) → ((a : A) → P a → Q a) �
 if_ok P Q f (Ok a) p = f a p
 if_ok P Q f (Err e) p = tt
 
--- Two stories end alike.
+-- Two runs end alike.
 pub record EndsAlike (s t : ScriptRun) : Type 0 where
   pub ending : s.ending ≡ t.ending
   pub world : s.world ≡ t.world

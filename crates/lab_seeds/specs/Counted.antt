@@ -1,4 +1,4 @@
--- What is counted of a world at the end of a story.
+-- What is counted of a world at the end of a run.
 use Rattle.std.specs.Prelude.{ℕ, length, Option, Some, None}
 use Rattle.std.specs.List.{sum_by}
 use Rattle.sorted_lists.specs.Range.{numbers_from}

@@ -1,4 +1,4 @@
--- How stories ended, and what is kept of that.
+-- How runs ended, and what is kept of that.
 use Rattle.std.specs.Prelude.{◌≡◌, ⊤, ℕ, ◌+◌, Bool, true, false, List, [], ◌∷◌}
 use Rattle.script_report.specs.declared.refusal.Refusal.TheVariants.{Limit}
 use Rattle.script_report.specs.Refusals.{refusal_number}
@@ -11,12 +11,12 @@ use Rattle.lab_seeds.specs.declared.end.SeedEnd.TheVariants.{Done, Refused, Fore
 use Rattle.lab_seeds.specs.declared.figures.Figures.{Figures}
 use Rattle.lab_seeds.specs.Counted.{figures_at}
 
--- All lines of the story were taken, and so much was counted.
+-- All lines of the run were taken, and so much was counted.
 pub record IsDoneWith (s : ScriptRun) (f : Figures) : Type 0 where
   pub ending : s.ending ≡ ending.Done
   pub figures : f ≡ figures_at s.world
 
--- The story ended so.
+-- The run ended so.
 abbrev pub IsEndOf : ScriptRun → SeedEnd → Type 0
 IsEndOf s (Done f) = IsDoneWith s f
 IsEndOf s (Refused line why) = s.ending ≡ ending.Refused line (refusal_number why)
@@ -37,11 +37,11 @@ EndsAfter r false end = end ≡ Done (figures_at r.state.world)
 
 -- ---- seeds that follow one another
 
--- The story of a seed ended so.
+-- The run of a seed ended so.
 abbrev pub HasEnd : (ℕ → ScriptRun) → ℕ → SeedEnd → Type 0
 HasEnd script_run seed e = IsEndOf (script_run seed) e
 
--- These are how the stories of the seeds from the first on ended.
+-- These are how the runs of the seeds from the first on ended.
 abbrev pub AreEnds : (ℕ → ScriptRun) → ℕ → List SeedEnd → Type 0
 AreEnds script_run first [] = ⊤
 AreEnds script_run first (e ∷ ends) = IsEndOf (script_run first) e × AreEnds script_run (first + 1) ends

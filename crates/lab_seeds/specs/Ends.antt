@@ -1,4 +1,4 @@
--- How the story of a seed ended, as it is kept, and what is written of it.
+-- How the run of a seed ended, as it is kept, and what is written of it.
 use Rattle.std.specs.Prelude.{ℕ, ◌+◌, Bool, true, false, List, [], ◌∷◌, ◌++◌}
 use Rattle.script_report.specs.Refusals.{refusal_number, refusal_word}
 use Rattle.lab_seeds.specs.declared.end.SeedEnd.{SeedEnd}

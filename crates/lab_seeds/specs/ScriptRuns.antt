@@ -1,4 +1,4 @@
--- The story of a script under a seed.
+-- The run of a script under a seed.
 use Rattle.std.specs.Prelude.{ℕ, ◌+◌, Bool, true, false, List, ◌++◌, length}
 use Rattle.script_report.specs.declared.refusal.Refusal.TheVariants.{Limit}
 use Rattle.script_report.specs.Refusals.{refusal_number, refusal_text}
@@ -10,7 +10,7 @@ use Rattle.script_story.specs.ScriptRun.{ScriptRun, nothing_reached, run_from}
 use Rattle.lab_seeds.specs.Inputs.{ScriptLines}
 use Rattle.lab_seeds.specs.Seeds.{seed_octets}
 
--- How a story ends that comes to a line of this number, which is refused as too long or too much.
+-- How a run ends at a line of this number, which is refused as too long or too much.
 abbrev pub ending_at : ℕ → Ending → Ending
 ending_at number Done = Refused number (refusal_number Limit)
 ending_at number (Refused line why) = Refused line why
@@ -22,12 +22,12 @@ text_at number Done text = text ++ refusal_text number Limit
 text_at number (Refused line why) text = text
 text_at number (Foreign line) text = text
 
--- A story that ends at a line of this number at the latest, where the lines were cut off before it.
+-- A run that ends at a line of this number at the latest, where the lines were cut off before it.
 abbrev pub cut_at : Bool → ℕ → ScriptRun → ScriptRun
 cut_at false number s = s
 cut_at true number s = record s { text = text_at number s.ending s.text; ending = ending_at number s.ending }
 
--- The story of a script.
+-- The run of a script.
 abbrev pub script_story : RunEnvironment → ScriptLines → ScriptRun
 script_story env s = cut_at s.cut (length s.lines + 1) (run_from env nothing_reached s.lines)
 

@@ -1,4 +1,4 @@
--- What comes of a script under seeds.
+-- The result of a script under seeds.
 use Rattle.std.specs.Prelude.{◌≡◌, ◌≢◌, ◌⊎◌, ℕ, Bool, true, false, ◌==◌, List, [], ◌∷◌, ◌++◌, Option, if◌then◌else◌}
 use Rattle.std.specs.List.{flat_map, list_all}
 use Rattle.group_model.specs.World.{World}
@@ -37,13 +37,13 @@ refusals =
 abbrev pub word_of : ℕ → List ℕ
 word_of number = flat_map (λ why. if refusal_number why == number then refusal_word why else []) refusals
 
--- How the story of a seed ended, and what was counted at its end.
+-- How the run of a seed ended, and what was counted at its end.
 abbrev pub ending_text : ℕ → Ending → Option World → List ℕ
 ending_text seed ending.Done world = done_text seed (figures_at world)
 ending_text seed (ending.Refused line number) world = refused_text seed line number (word_of number)
 ending_text seed (ending.Foreign line) world = foreign_text seed line
 
--- The line that is written of a seed whose story this is.
+-- The line that is written of a seed whose run this is.
 abbrev pub seed_text : ℕ → ScriptRun → List ℕ
 seed_text seed s = ending_text seed s.ending s.world
 
@@ -55,11 +55,11 @@ is_done ending.Done = true
 is_done (ending.Refused line number) = false
 is_done (ending.Foreign line) = false
 
--- What was counted in a story, if all its lines were taken.
+-- What was counted in a run, if all its lines were taken.
 abbrev pub figures_if_done : ScriptRun → List Figures
 figures_if_done s = if is_done s.ending then figures_at s.world ∷ [] else []
 
--- The text over the stories of seeds, and the status.
+-- The text over the runs of seeds, and the status.
 abbrev pub outcome_over : (ℕ → ScriptRun) → List ℕ → Outcome
 outcome_over script_run seeds = record {
   text = flat_map (λ seed. seed_text seed (script_run seed)) seeds
@@ -67,13 +67,13 @@ outcome_over script_run seeds = record {
   status = if list_all (λ seed. is_done (script_run seed).ending) seeds then Done else Refused;
 }
 
--- What comes of an input under the seeds from the first to the last.
+-- The result of an input under the seeds from the first to the last.
 abbrev pub seeds_of : ℕ → ℕ → List ℕ → Outcome
 seeds_of first last input = outcome_over (seed_run (script_of input)) (seeds_between first last)
 
 -- ---- as it is written
 
--- The status over how stories ended.
+-- The status by how runs ended.
 abbrev pub ends_status : List SeedEnd → LabStatus
 ends_status ends = if list_all end_is_done ends then Done else Refused
 

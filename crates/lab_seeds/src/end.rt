@@ -6,7 +6,7 @@ use crate::figures::Figures;
 use script_report::Refusal;
 use std::alloc::{AllocError, Global};
 
-// How the story of a seed ended.
+// How the run of a seed ended.
 #[derive(Clone, Copy)]
 pub(crate) enum SeedEnd {
     // All lines were taken, and so much was counted.
@@ -26,7 +26,7 @@ impl SeedEnd {
     }
 }
 
-// What was counted in those stories whose lines were all taken.
+// What was counted in those runs whose lines were all taken.
 pub(crate) fn done_figures(alloc: Global, ends: &[SeedEnd]) -> Result<Vec<Figures>, AllocError>
     ensures { IfOk result (λ done. done.items ≡ flat_map end_figures ends.now) }
 {

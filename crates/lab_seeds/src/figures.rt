@@ -1,4 +1,4 @@
-// What a script cost, and what came of it.
+// What a script cost, and its result.
 #[derive(Clone, Copy)]
 pub(crate) struct Figures {
     // The sync Interests that were sent.

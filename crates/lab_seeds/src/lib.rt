@@ -1,4 +1,4 @@
-//! The story of one script under many seeds: how often what is sent is lost, and what that costs, is drawn by a seed.
+//! The runs of one script under many seeds: how often what is sent is lost, and what that costs, is drawn by a seed.
 //!
 //! What is promised of it: `docs/promises/lab_seeds.md`.
 #![tactic(auto)]

@@ -38,7 +38,7 @@ pub fn seeds<R: Threads + Sync, S: Source, K: Sink>(
     requires few { last - first < 10000 }
     requires workers { (1 ≤ workers) × (workers ≤ 16) }
 
-    // At the end of its text the status is that of the stories under the seeds, and what was written is their text,
+    // At the end of its text the status is that of the runs under the seeds, and what was written is their text,
     // whatever the number of workers and their turns. Whatever comes, it is a prefix of that text.
     ensures writes { WritesOutcome (option_map (seeds_of first last) (S.left source.old))
         (K.out sink.old) (K.out sink.new) result }
@@ -60,7 +60,7 @@ pub fn seeds<R: Threads + Sync, S: Source, K: Sink>(
     write_seeds(rt, alloc, first, count, workers, &script, sink)
 }
 
-// Carries out a script under so many seeds, and writes what came of each and of all.
+// Carries out a script under so many seeds, and writes the result of each and of all.
 fn write_seeds<R: Threads + Sync, K: Sink>(
     rt: &R,
     alloc: Global,
@@ -87,7 +87,7 @@ fn write_seeds<R: Threads + Sync, K: Sink>(
     }
 }
 
-// How the stories of so many seeds ended, in their order.
+// How the runs of so many seeds ended, in their order.
 fn ends_of<R: Threads + Sync>(
     rt: &R,
     alloc: Global,
@@ -105,7 +105,7 @@ fn ends_of<R: Threads + Sync>(
     ends_in(rt, alloc, first, workers, script, &mut room)
 }
 
-// The same, with room for each.
+// The same, with capacity for each.
 fn ends_in<R: Threads + Sync>(
     rt: &R,
     alloc: Global,
@@ -148,7 +148,7 @@ fn put_ends<R: Threads + Sync>(
     );
 }
 
-// How the story of a seed ended, unless memory ran out.
+// How the run of a seed ended, unless memory ran out.
 fn seed_end<R: Threads + Sync>(
     rt: &R,
     alloc: Global,
@@ -174,7 +174,7 @@ fn all_there(alloc: Global, ends: &[Option<SeedEnd>]) -> Result<Vec<SeedEnd>, Al
     Ok(all)
 }
 
-// The status over how stories ended.
+// The status by how runs ended.
 fn status_of(ends: &[SeedEnd]) -> LabStatus
     ensures { result ≡ ends_status ends.now }
 {

@@ -17,7 +17,7 @@ use script_report::Refusal;
 use std::alloc::{AllocError, Global};
 use std::thread::Threads;
 
-// Carries out a script in a world of its own, and gives how its story ended.
+// Carries out a script in a world of its own, and returns how its run ended.
 pub(crate) fn end_of<R: Threads + Sync>(
     rt: &R,
     alloc: Global,

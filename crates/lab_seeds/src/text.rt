@@ -9,7 +9,7 @@ use crate::figures::Figures;
 use crate::ranks::{Ranks, ranks_of};
 use std::alloc::{AllocError, Global};
 
-// The text over how the stories of the seeds from the first on ended.
+// The text by how the runs of the seeds from the first on ended.
 pub(crate) fn text_of(alloc: Global, first: u64, ends: &[SeedEnd]) -> Result<String, AllocError>
     requires { first + length ends.now ≤ 2 ^ 64 }
     ensures { IfOk result (λ text. string_bytes text

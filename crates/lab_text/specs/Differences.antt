@@ -46,7 +46,7 @@ are_same expected actual =
     is_empty_list (after_common_prefix expected actual).expected
     && is_empty_list (after_common_prefix expected actual).actual
 
--- `- ` marks what was expected, `+ ` what came.
+-- `- ` marks what was expected, `+ ` what was printed.
 abbrev pub difference_text : Difference → List ℕ
 difference_text d = marked_lines (codes "- ") d.expected ++ marked_lines (codes "+ ") d.actual
 

@@ -21,7 +21,7 @@ pub record Outcome : Type 0 where
   pub text : List ℕ
   pub status : LabStatus
 
--- The statuses of a form that came to the end of its text.
+-- The statuses of a form that wrote its text to the end.
 abbrev pub IsEnd : LabStatus → Type 0
 IsEnd Done = ⊤
 IsEnd Usage = ⊥

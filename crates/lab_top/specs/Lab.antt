@@ -1,4 +1,4 @@
--- What comes of words over an input, and what the call of the lab answers, reads and writes of that.
+-- The result of words over an input, and what the call of the lab answers, reads and writes of that.
 use Rattle.std.specs.Prelude.{◌≡◌, ◌↔◌, ⊤, ℕ, List, [], Option, Some, None, IfSome}
 use Rattle.std.specs.Option.{option_map}
 use Rattle.repo_io.specs.Outside.{GainsText}
@@ -19,7 +19,7 @@ use Rattle.lab_top.specs.declared.asked.Asked.{Asked}
 use Rattle.lab_top.specs.declared.asked.Asked.TheVariants.{Transcript, Trace, Check, Lint, Seeds, Capture, Draw}
 use Rattle.lab_top.specs.Usage.{usage_text}
 
--- What comes of a form over an input.
+-- The result of a form over an input.
 abbrev pub form_outcome : Asked → List ℕ → Outcome
 form_outcome (Transcript seed) input = transcript_of (given_of seed) input
 form_outcome (Trace seed) input = trace_of (given_of seed) input
@@ -33,7 +33,7 @@ form_outcome (Draw seed) input = draw_of (given_of seed) input
 abbrev pub usage_outcome : Outcome
 usage_outcome = record { text = usage_text; status = Usage }
 
--- What comes of the words over an input, where it is known or not needed.
+-- The result of the words over an input, where it is known or not needed.
 abbrev pub lab_outcome : Option Asked → Option (List ℕ) → Option Outcome
 lab_outcome None input = Some usage_outcome
 lab_outcome (Some asked) input = option_map (form_outcome asked) input

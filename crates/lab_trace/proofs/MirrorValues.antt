@@ -1,4 +1,4 @@
--- What is noted of a mirror is what the story says.
+-- What is noted of a mirror is what the run says.
 use Rattle.std.proofs.Common.{◌≡◌, ◌∙◌, ◌<◌, ◌↔◌, ℕ, Bool, true, false, ◌&&◌, ◌||◌, List, None, length, map}
 use Rattle.std.proofs.Common.{refl, sym, ap, subst, arith}
 use Rattle.std.specs.Prelude.{◌==◌}
@@ -103,7 +103,7 @@ module _ (g : GroupKeys) (w : World) (m : MirrorState) (are : AreLogs g (logs w)
   pub listed_are : member_catalogue m.store ≡ mirrored_entries w (mirror_as m)
   listed_are = mirrors_list_alike g (logs w) m are consistent
 
--- The mirror as the story has it.
+-- The mirror as the run has it.
 shown_as : (s : GroupState) (i : ℕ) (m : MirrorState) → i < length s.mirrors → m ≡ mirror_at s.mirrors i
     → mirror_as m ≡ mirror_of (map mirror_as s.mirrors) i
 shown_as s i m there is = ap mirror_as is ∙ sym (at_as s.mirrors i there)

@@ -1,4 +1,4 @@
--- What notes say of each member and of each mirror after the lines of a story.
+-- What notes say of each member and of each mirror after the lines of a run.
 use Rattle.std.specs.Prelude.{ℕ, ◌&&◌, List, map, filter, length, Some, None}
 use Rattle.sorted_lists.specs.Range.{numbers_from}
 use Rattle.svs_sync.specs.Suppression.{mode_of}
@@ -29,8 +29,8 @@ member_counts w m = record {
   lists = length (catalogue_at w m);
 }
 
--- The parts whose packets a mirror keeps: those that it holds, but for the records of objects that its pattern isn't
--- for.
+-- The parts whose packets a mirror keeps: those that it holds, without the records of objects that its pattern doesn't
+-- accept.
 abbrev pub kept_by : World → Mirroring → List Part
 kept_by w m = filter (λ t. m.holds t && is_for m.pattern (logs w) (pair_of t)) (all_parts (logs w))
 

@@ -28,7 +28,7 @@ pub(crate) struct Figures {
     pub counts: Counts,
 }
 
-// All that a note says, but for the label.
+// All that a note says, except the label.
 #[derive(Drop)]
 pub(crate) struct Values {
     pub known: Vector,

@@ -131,7 +131,7 @@ abbrev pub hears_some : ℕ → List Heard → List Call
 hears_some member heard =
     hears member heard ++ (if nat_lt (length heard) heard_at_once then Take None ∷ [] else [])
 
--- What came was heard, as many as are heard at once, and no other call made.
+-- Sync Interests were heard, as many as are heard at once, and no other call made.
 abbrev pub HearsSome : ℕ → Progress → Progress → Type 0
 HearsSome member old new =
     (heard : List Heard) × (length heard ≤ heard_at_once) × Makes (hears_some member heard) old new

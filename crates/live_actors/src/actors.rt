@@ -39,7 +39,7 @@ pub fn act<L: Lists, R: Wait, P: Places<L>>(
 }
 
 /// The first actor of a member publishes until nothing is to come. It puts the sync Interest of each publication into
-/// the inboxes of all others, and after it the member hears what came into its own.
+/// the inboxes of all others, and after it the member hears what was put into its own.
 pub fn publish<L: Lists, R: Wait, P: Places<L>>(
     rt: &R,
     places: &mut P,

@@ -19,7 +19,7 @@ pub trait Places<L: Lists> {
         ensures { OnOk result (Makes (Call.Pass member actor ∷ []) (progress self.old) (progress self.new)) };
 
     /// The member publishes its next object and gives the sync Interest of it. `None` where nothing is to come, or
-    /// where its journal has no room: this takes a ticket.
+    /// where its journal has no capacity left: this takes a ticket.
     fn publish_next(&mut self, member: u32) -> Result<Option<Told<L>>, AllocError>
         requires member { member < (progress self.old).members }
         requires ticket { 0 < (progress self.old).left }

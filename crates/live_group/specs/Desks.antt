@@ -3,7 +3,7 @@ use Rattle.std.specs.Prelude.{ℕ, ◌≡◌, ◌+◌, ◌*◌, ◌<◌, [], len
 use Rattle.live_member.specs.Lives.{Living}
 use Rattle.live_member.specs.Entries.{claims_by}
 
--- The journal has room, so that no call was answered Full.
+-- The journal has capacity, so that no call was answered Full.
 abbrev pub HasRoom : Living → Type 0
 HasRoom l = length l.journal < 900000
 
@@ -23,7 +23,7 @@ pub record AreTokens (tokens count named size members : ℕ) : Type 0 where
   pub enough : count ≡ members * 4 + 1
 
 -- Under a lock lies a member with so many claims and last looks still to come, and so many tickets spent. As long as
--- its journal has room, the claims of each fetcher in it and those still to come are its turns; and once there was the
+-- its journal has capacity, the claims of each fetcher in it and those to come are its turns; and once there was the
 -- last look, nothing is to be published.
 pub record IsDesk (turns : ℕ) (l : Living) (first second look spent : ℕ) : Type 0 where
   pub tickets : spent + first + second + look ≡ tickets_each turns
@@ -38,6 +38,6 @@ pub record HasActed (turns : ℕ) (l : Living) : Type 0 where
   pub second : claims_by 2 l.journal ≡ turns
   pub published : l.unpublished ≡ []
 
--- Where no ticket of a member's actors is left, they have done all of this, as long as the journal had room.
+-- Where no ticket of a member's actors is left, they have done all of this, as long as the journal had capacity.
 abbrev pub HasEnded : ℕ → Living → ℕ → Type 0
 HasEnded turns l left = left ≡ 0 → HasRoom l → HasActed turns l

@@ -22,7 +22,7 @@ module _ {L : Type 0} where
   actor_of (First member) = actor.First member
   actor_of (Second member) = actor.Second member
 
-  -- The first actor of a member has a line to each member's inbox, in order, and hears what comes into its own.
+  -- The first actor of a member has a line to each member's inbox, in order, and hears what is put into its own.
   abbrev pub IsWired : List InboxView → Job L → Type 0
   IsWired inboxes (Publish publisher) =
       (map (λ sender. sender.inbox) publisher.senders.items ≡ inboxes)
@@ -40,8 +40,8 @@ module _ {L : Type 0} where
   HasSenders senders (First member) = Unit {0}
   HasSenders senders (Second member) = Unit {0}
 
-  -- A job can be done over so many seats in a group of so many members. Each member has a seat, and there are sixteen at
-  -- most. The job is that of an actor of one of them. Where it publishes it has a line to each.
+  -- A job can be done over so many seats in a group of so many members. Each member has a seat, and there are at most
+  -- sixteen. The job is that of an actor of one of them. Where it publishes it has a line to each.
   pub record CanBeDone (seats count : ℕ) (job : Job L) : Type 0 where
     pub members : seats ≡ count
     pub few : seats ≤ 16

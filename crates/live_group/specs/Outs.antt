@@ -1,4 +1,4 @@
--- What comes of the threads of a run, and of all of it.
+-- The results of the threads of a run, and of all of it.
 use Rattle.std.specs.Prelude.{ℕ, ◌≡◌, ◌*◌, List, length, sum_by}
 use Rattle.group_model.specs.Publications.{all_parts}
 use Rattle.live_member.specs.Meanings.{Meaning, whole_logs}
@@ -19,7 +19,7 @@ abbrev pub all_left : List OutView → ℕ
 all_left outs = sum_by (λ (o : OutView). o.left) outs
 
 -- This member goes on after the threads. What lay under the lock of its place had all done with it that a member's own
--- actors do, as long as its journal had room; and where that was the member of the place, it is this one.
+-- actors do, as long as its journal had capacity; and where that was the member of the place, it is this one.
 pub record IsOut (t : Meaning) (turns : ℕ) (l : Living) : Type 0 where
   pub out : Living
   pub live : IsLive t 1000000 out
@@ -31,7 +31,7 @@ abbrev pub turns_of : Meaning → ℕ
 turns_of t = length (all_parts (whole_logs t)) * 2
 
 -- What lay under the lock of a member's place after all threads had ended: by its own actors' calls, as long as its
--- journal had room. Where it was the member of the place, the journal that comes out of the run begins with its
+-- journal had capacity. Where it was the member of the place, the journal that comes out of the run begins with its
 -- journal, and has so many claims of fetcher 2.
 pub record HasRun (t : Meaning) (turns : ℕ) (r : Ran) : Type 0 where
   pub out : Living

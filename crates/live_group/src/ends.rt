@@ -13,7 +13,7 @@ pub struct Ends<L: Lists> {
 }
 
 impl<L: Lists> Ends<L> {
-    /// What came first of what wasn't taken yet, if anything did.
+    /// The first value that wasn't taken yet, if there is one.
     pub fn next<R: Wait>(&mut self, rt: &R) -> Option<Told<L>>
         ensures { self.new.senders ≡ self.old.senders }
     {

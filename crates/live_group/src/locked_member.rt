@@ -39,7 +39,7 @@ impl<L: Run> LockedMember<L> {
         }
     }
 
-    /// The member publishes its next object. `None` where nothing is to come, or where the journal has no room: this
+    /// The member publishes its next object. `None` where nothing is left, or where the journal is full: this
     /// spends a ticket. Who publishes looks once in vain, so no run asks for a second such look.
     pub fn publish_next(
         &mut self,

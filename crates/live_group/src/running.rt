@@ -22,7 +22,7 @@ use std::sync::Wait;
 use std::sync::ledger::{Blank, Share};
 use std::thread::Threads;
 
-/// Runs a group in threads: each member publishes its list, tells the others, hears them, and fetches what it wants,
+/// Runs a group in threads: each member publishes its list, informs the others, hears them, and fetches what it wants,
 /// all at once. Then what is left is published, and a settle is made.
 ///
 /// There is one list and one draw for each member of the group, in order of their numbers. Each member's journal

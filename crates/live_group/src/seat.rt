@@ -22,7 +22,7 @@ pub struct Seat<L: Run> {
     lock: Mutex<LockedMember<L>>,
 }
 
-// A place is seen as its number. What stands under the lock no contract can tell.
+// A place is seen as its number. No contract can say what stands under the lock.
 impl<L: Run> Model for Seat<L> {
     ghost use Rattle.std.specs.Prelude.{ℕ};
     ghost use Rattle.live_group.specs.Seats.{IsSeat};

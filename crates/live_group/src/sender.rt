@@ -75,7 +75,7 @@ impl<L: Lists> Receiver<L> {
         Receiver { inbox, mouth }
     }
 
-    /// What came first of what wasn't taken yet, if anything did.
+    /// The first value that wasn't taken yet, if there is one.
     pub fn next<R: Wait>(&mut self, rt: &R) -> Option<Told<L>>
         ensures inbox { self.new.inbox ≡ self.old.inbox }
         ensures told { IfSome result (λ told. HasTaken self.old.mouth told self.new.mouth) }

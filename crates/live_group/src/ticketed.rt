@@ -33,7 +33,7 @@ impl<L: Run> TicketedActor<L> {
     }
 }
 
-/// What an actor gives back: it has no ticket left.
+/// What an actor returns: it has no ticket left.
 #[derive(Drop)]
 pub struct Done<L: Run> {
     pub tickets: Share<L>,

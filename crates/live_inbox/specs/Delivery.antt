@@ -8,7 +8,7 @@ use Rattle.live_inbox.specs.declared.knowledge.Returned.{Returned}
 use Rattle.live_inbox.specs.declared.knowledge.Knowledge.{Knowledge}
 use Rattle.live_inbox.specs.Knowledge.{values_of, StandsBefore}
 
--- What has come of an inbox so far. No port and no mouth knows it whole.
+-- The history of an inbox so far. No port and no mouth knows it whole.
 pub record History (T : Type 0) : Type 0 where
   pub reader : ℕ  -- the number of the mouth's place
   pub count : ℕ  -- how many ports there are to be

@@ -1,4 +1,4 @@
--- What the ports of an inbox and its mouth know, and what each step tells them.
+-- What the ports of an inbox and its mouth know, and what they learn from each step.
 use Rattle.std.specs.Prelude.{ℕ, ◌<◌, ◌≡◌, ◌==◌, true, false, List, [], ◌∷◌, ◌++◌, map}
 use Rattle.std.specs.List.{All, filter}
 use Rattle.live_inbox.specs.declared.knowledge.Sent.{Sent}

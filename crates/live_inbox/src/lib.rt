@@ -1,5 +1,5 @@
 //! A bounded inbox that threads share: each of its ports puts values, and the one mouth takes them. What
-//! comes of a port is what it put, in its order, each once.
+//! a port delivers is what it put, in its order, each once.
 //!
 //! What is promised of it: `docs/promises/live_inbox.md`.
 #![tactic(auto)]

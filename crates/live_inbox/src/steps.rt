@@ -1,4 +1,4 @@
-//! What each step at the queue tells: a put, a take, a port that is dealt out, one that is taken back.
+//! What is known after each step at the queue: a put, a take, a port that is dealt out, one that is taken back.
 use crate::knowledge::{Knowledge, Sent};
 use crossbeam_queue::protocol::{Join, Lesson, Outcome, Split};
 use std::marker::{Brand, PhantomData};

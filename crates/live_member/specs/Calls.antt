@@ -54,14 +54,14 @@ lose_reply_of (Some t) = reply.Lost t
 abbrev pub lose_reply : ℕ → MemberState → LiveReply
 lose_reply f a = lose_reply_of (claim_of (member_plan a) f)
 
--- ---- a sync Interest, by the vector that it tells the member
+-- ---- a sync Interest, by the vector that the member learns
 
 -- The member after octets that have this verdict as a sync Interest.
 abbrev pub hear_change : Result (List ℕ) HearRefusal → ℕ → MemberState → MemberState
 hear_change (Ok told) draw a = member_hears told 0 draw a
 hear_change (Err refusal) draw a = a
 
--- The reply to octets that have this verdict as a sync Interest: the mode of the machine then, or a refusal.
+-- The reply to octets that have this verdict as a sync Interest: the mode of the sync state then, or a refusal.
 abbrev pub hear_reply : Result (List ℕ) HearRefusal → ℕ → MemberState → LiveReply
 hear_reply (Ok told) draw a = mode_reply (mode_of (member_hears told 0 draw a).machine.heard)
 hear_reply (Err refusal) draw a = reply.Refused

@@ -41,8 +41,8 @@ AreOfPublishedParts t journal = All (λ e. IsOfPublishedPart t e.event) journal
 
 -- The group is within its limits. The journal replays to the member, and each packet in it is of a part of the lists.
 -- What the member published, followed by what is still to come, is its list. It is as each in a sound group in which
--- the others have published their whole lists, each packet that it stores is that of its part, and it hides nothing.
--- It used no more draws than it has entries, but for the first, and no more entries than there is room for.
+-- the others have published their whole lists, each packet that it stores is that of its part, and nothing is deleted.
+-- It used no more draws than it has entries, not counting the first, and no more entries than there is capacity for.
 pub record IsLive (t : Meaning) (most : ℕ) (l : Living) : Type 0 where
   pub within : IsWithinLimits t
   pub replays : ReplaysTo t l.journal l.state

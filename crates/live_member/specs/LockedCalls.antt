@@ -26,7 +26,7 @@ pub record IsEntered (t : Meaning) (e : LiveEvent) (old new : Living) (r : LiveR
   pub number : new.state.number ≡ old.state.number
   pub entered : new.journal ≡ old.journal ++ entry e r ∷ []
 
--- So it is where there is room. Where there is none the answer is Full, and nothing changes.
+-- So it is where there is capacity. Where there is none the answer is Full, and nothing changes.
 abbrev pub StepsBy : Meaning → ℕ → LiveEvent → Living → Living → LiveReply → Type 0
 StepsBy t most e old new r =
     (most ≤ length old.journal → (r ≡ reply.Full) × (new ≡ old))
@@ -50,7 +50,7 @@ pub record IsNext (t : Meaning) (most : ℕ) (old new : Living) (octets : List �
   pub told : octets ≡ sync_of t.group new.state.number new.state.known
   pub live : IsLive t most new
 
--- Nothing is to come; else there is no room; else the next object is published.
+-- Nothing is to come; else there is no capacity; else the next object is published.
 abbrev pub Publishes : {A L : Type 0} → Meaning → ℕ → Living → Living → Result (NextTold L) A → Type 0
 Publishes t most old new (Ok (next.Told octets)) = IsNext t most old new octets
 Publishes t most old new (Ok next.Done) = (old.unpublished ≡ []) × (new ≡ old)

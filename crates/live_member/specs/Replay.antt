@@ -56,14 +56,14 @@ is_refused t j m (event.Claim f) = is_some (claim_at (world_at t j m) j f)
 is_refused t j m (event.Accept f part) = false
 is_refused t j m (event.Lose f) = is_none (claim_at (world_at t j m) j f)
 
--- ---- what comes of it
+-- ---- its result
 
--- The reply with the mode of the machine.
+-- The reply with the mode of the sync state.
 abbrev pub mode_reply : Mode → LiveReply
 mode_reply Steady = reply.Steady
 mode_reply Suppressed = reply.Suppressed
 
--- What a journal says of what the group tells. Octets that are refused, and packets that aren't taken, are Refused.
+-- What a journal says of the group's replies. Octets that are refused, and packets that aren't taken, are Refused.
 abbrev pub live_reply : Reply → LiveReply
 live_reply (Reply.Published seq segments sync) = reply.Published seq
 live_reply (Reply.Heard mode) = mode_reply mode

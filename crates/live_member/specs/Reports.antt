@@ -1,4 +1,4 @@
--- What members tell and lend each other.
+-- What members announce and lend each other.
 use Rattle.std.specs.Prelude.{ℕ, ◌≡◌, ◌<◌, List, length, Some}
 use Rattle.repo_plan.specs.declared.part.Part.{Part}
 use Rattle.repo_member.specs.Verdicts.{sync_of}

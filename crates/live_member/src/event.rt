@@ -16,7 +16,7 @@ pub enum LiveEvent {
     Lose { f: u8 },
 }
 
-/// What came of it.
+/// Its result.
 #[derive(Clone, Copy, Debug, PartialEq, Eq)]
 pub enum LiveReply {
     Published { seq: u16 },
@@ -28,7 +28,7 @@ pub enum LiveReply {
     Lost { part: Part },
     /// Nothing changed but the journal.
     Refused,
-    /// The journal has no room, and nothing changed.
+    /// The journal has no capacity left, and nothing changed.
     Full,
 }
 

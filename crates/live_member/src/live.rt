@@ -19,14 +19,14 @@ use std::alloc::{AllocError, Global};
 use std::collections::VecDeque;
 use std::marker::{Model, PhantomData};
 
-/// What comes of `publish_next`.
+/// The result of `publish_next`.
 #[derive(Drop)]
 pub enum NextTold<L: Lists> {
     /// The next object was published, and this reports it.
     Told(Told<L>),
     /// Nothing is to come.
     Done,
-    /// The journal has no room.
+    /// The journal has no capacity left.
     Full,
 }
 
@@ -210,7 +210,7 @@ impl<L: Lists, const M: u32> Live<L, M> {
         Ok(Some(Lent::new(part, octets)))
     }
 
-    /// The sync Interest that tells what the member knows now.
+    /// The sync Interest of what the member knows now.
     pub fn tell(&self, alloc: Global, g: &Group) -> Result<Told<L>, AllocError>
         requires { g.now ≡ L.meaning.group }
         ensures { IfOk result (λ told. told ≡ sync_of L.meaning.group self.now.state.number
@@ -220,7 +220,7 @@ impl<L: Lists, const M: u32> Live<L, M> {
         Ok(Told::new(octets))
     }
 
-    /// The same member and journal, with room for more entries. It takes no memory.
+    /// The same member and journal, with capacity for more entries. It allocates nothing.
     pub fn widen(self) -> Live<L, 1000000>
         requires { M ≤ 1000000 }
         ensures same { result ≡ self }

@@ -26,7 +26,7 @@ counted_or_large false line next = refl
 
 -- ---- the three forms that may stand there
 
--- What such a form states is judged, whatever its values are.
+-- What such a form states is evaluated, whatever its values are.
 abbrev FormIsJudged : Verb → Type 0
 FormIsJudged v = (r : Reached) (line : List ℕ) (d : Declared) (values : List Value) → AreShaped (form v).kinds values
     → IsEvaluated (taken_by v r line d values)

@@ -23,7 +23,7 @@ use Rattle.script_report.specs.declared.refusal.Refusal.{Refusal}
 use Rattle.script_report.specs.declared.refusal.Refusal.TheVariants as refusal
 use Rattle.live_script.specs.Limits.{live_contents}
 
--- What the lines so far came to: how many lines and octets were taken, what they declared, the names and keys of the
+-- The result of the lines so far: how many lines and octets were taken, what they declared, the names and keys of the
 -- group, and the objects that each member is to publish.
 pub record Reached : Type 0 where
   pub lines : ℕ

@@ -1,4 +1,4 @@
-//! The input of a live group: its name, its members, and what these are to publish, judged line by line.
+//! The input of a live group: its name, its members, and what these are to publish, tested line by line.
 //!
 //! What is promised of it: `docs/promises/live_script.md`.
 #![tactic(auto)]

@@ -23,7 +23,7 @@ use script_report::Refusal;
 use std::alloc::{AllocError, Global};
 use std::marker::Model;
 
-/// What the lines of an input came to so far: the group, and what its members are to publish.
+/// The result of the lines of an input so far: the group, and what its members are to publish.
 #[derive(Drop)]
 pub struct Script {
     alloc: Global,
@@ -86,7 +86,7 @@ impl Script {
         self.lines + 1
     }
 
-    /// Takes the next line, its line feed with it, or tells why not.
+    /// Takes the next line, its line feed with it, or returns why not.
     ///
     /// Of an input that is too long the line suffices up to the octet that is one too many.
     pub fn take(self, line: &[u8]) -> Result<Script, LineError>

@@ -1,4 +1,4 @@
--- What comes of a whole run.
+-- The result of a whole run.
 use Rattle.std.specs.Prelude.{ℕ, zero, suc, ◌≡◌, List, [], ◌∷◌, ◌++◌, map, length, slice_index_or}
 use Rattle.std.specs.List.{All}
 use Rattle.group_model.specs.Publications.{join_of}

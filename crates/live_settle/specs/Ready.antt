@@ -110,7 +110,7 @@ pub record CanGather (t : Meaning) (j : ℕ) (ls : List Living) : Type 0 where
   pub there : j < length ls
   pub gathering : IsGathering t (at ls j)
 
--- ---- what comes
+-- ---- what is fetched
 
 -- The parts of the lists that a member doesn't hold.
 abbrev pub missing : Logs → List Part → List Part
@@ -120,7 +120,7 @@ missing ls held = filter (λ t. not (contains part_cmp held t)) (all_parts ls)
 abbrev pub missing_of : Meaning → MemberState → ℕ
 missing_of t a = length (missing (whole_logs t) (keys a.store))
 
--- So many parts have come to the member at place `j`, each by two entries.
+-- The member at place `j` got so many parts, each by two entries.
 pub record Turned (t : Meaning) (j turns : ℕ) (old new : List Living) : Type 0 where
   pub only : Only j old new
   pub gathering : IsGathering t (at new j)

@@ -37,7 +37,7 @@ fn ready<L: Lists>(g: &Group, live: &mut Live<L, 1000000>) -> Result<(), AllocEr
     lose_claims(g, live)
 }
 
-// What is still to come of the list is published.
+// What isn't published yet of the list is published.
 fn publish_rest<L: Lists>(g: &Group, live: &mut Live<L, 1000000>) -> Result<(), AllocError>
     requires group { g.now ≡ L.meaning.group }
     requires live { IsLive L.meaning 1000000 live.old }

@@ -12,7 +12,7 @@ use repo_member::Group;
 use std::alloc::{AllocError, Global};
 
 /// Publishes what is left of each list, and settles: each claim ends, each member hears all others, and then each
-/// fetches what it wants. The members stand in order of their numbers, each with room for 100,000 entries.
+/// fetches what it wants. The members stand in order of their numbers, each with capacity for 100,000 entries.
 ///
 /// Where memory runs out the members are dropped.
 pub fn settle<L: Lists>(

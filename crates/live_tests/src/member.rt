@@ -37,7 +37,7 @@ fn compare_journal(rt: &impl Abort, journal: &[LiveEntry], replies: &[LiveReply]
     );
 }
 
-// Alice publishes the first object, for which alone her journal has room.
+// Alice publishes the first object, for which alone her journal has capacity.
 fn publish_first<L: Lists>(
     rt: &(impl Abort + AllocGlobal),
     g: &Group,

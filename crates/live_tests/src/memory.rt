@@ -8,7 +8,7 @@ use repo_plan::Part;
 use std::alloc::{AllocError, Global};
 use std::snapshot::Snapshot;
 
-// A call as tests compare it. Packets are told apart by a mark of their octets.
+// A call as tests compare it. Packets are distinguished by a mark of their octets.
 #[derive(Clone, Copy, PartialEq, Eq)]
 pub(crate) enum Seen {
     Pass(u32, u8),

@@ -21,8 +21,8 @@ abbrev pub is_live : List (List ℕ) → Bool
 is_live (word ∷ []) = bytes_eq word (codes "live")
 is_live _ = false
 
--- The status of a run over an input that comes to this. Under 0, which is no refusal's number, a line would be refused
--- that no row judges.
+-- The status of a run over an input with this result. Under 0, which is no refusal's number, a line would be refused
+-- that no row evaluates.
 abbrev pub status_of : Outcome → Status
 status_of (Refused line why) = status.Refused line (refusal_number why)
 status_of (Taken r) = status.Done
@@ -46,7 +46,7 @@ pub record HasRun (draw : ℕ → ℕ → ℕ) (left rest old new : Option (List
   pub ran : AreRans (meaning_at draw reached) rans
   pub text : GainsText old new (live_text (labels_at reached) rans)
 
--- A text that a run may write over an input that comes to this: why a line is refused; or the journals and catalogues
+-- A text that a run may write over an input with this result: why a line is refused; or the journals and catalogues
 -- of members that ran.
 pub record ReportsOfRun (draw : ℕ → ℕ → ℕ) (r : Reached) (text : List ℕ) : Type 0 where
   pub rans : List Ran
@@ -77,7 +77,7 @@ pub record UsageIsOfWords (words : List (List ℕ)) (answer : Status) (SameSourc
 
 -- The status is of the lines of the input.
 pub record IsOfLines (left : Option (List ℕ)) (answer : Status) : Type 0 where
-  -- On `Done` and `Refused` it is what they come to.
+  -- On `Done` and `Refused` it is their result.
   pub reported : IsEndOfRun answer → IfSome left (λ input. answer ≡ status_of (outcome_of input))
   -- No line brings octets, so none is foreign.
   pub never_foreign : (line : ℕ) → answer ≢ status.Foreign line
@@ -100,7 +100,7 @@ pub record HasCause (words : List (List ℕ)) (left : Option (List ℕ)) (answer
   pub unwritten : answer ≡ status.ReadFault → SameSink
   -- `WriteFault` comes only where the sink failed.
   pub write_fault : answer ≡ status.WriteFault → SinkFailed
-  -- Where nothing fails, what the lines come to is answered, unless memory runs out.
+  -- Where nothing fails, the answer is the result of the lines, unless memory runs out.
   pub complete : is_live words ≡ true → (SourceFailed → ⊥) → (SinkFailed → ⊥)
       → IfSome left (λ input. (answer ≡ status_of (outcome_of input)) ⊎ (answer ≡ status.NoMemory))
 

@@ -18,7 +18,7 @@ pub record IsRead (left rest : Option (List ℕ)) (r : Reached) : Type 0 where
   pub ended : IsAtEnd rest
   pub taken : outcome_of input ≡ Taken r
 
--- An input that comes to this stops so, unless memory ran out. No source fails meanwhile.
+-- An input with this result stops so, unless memory ran out. No source fails meanwhile.
 abbrev pub Stops : Outcome → InputError → Type 0
 Stops outcome halt.Failed = ⊥
 Stops outcome (halt.Refused line why) = outcome ≡ Refused line why

@@ -7,7 +7,7 @@ use Rattle.repo_io.specs.Lines.{lines}
 use Rattle.script_report.specs.declared.refusal.Refusal.{Refusal}
 use Rattle.live_script.specs.Evaluation.{Reached, Verdict, nothing_reached, evaluated, refused, takes, not_evaluated}
 
--- The first line that is refused, and why; or what all lines came to. That no row judges a line doesn't happen.
+-- The first line that is refused, and why; or the result of all lines. There is no line that no row evaluates.
 pub data Outcome : Type 0 where
   Refused : (line : ℕ) → Refusal → Outcome
   Taken : Reached → Outcome

@@ -1,4 +1,4 @@
--- What the lines of members that ran tell.
+-- What the lines of members that ran say.
 use Rattle.std.specs.Prelude.{ℕ, ◌≡◌, ◌≢◌, ⊤, List, [], length, Some, slice_get}
 use Rattle.std.specs.List.{All}
 use Rattle.repo_holdings.specs.Listed.{member_catalogue}

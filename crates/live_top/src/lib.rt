@@ -1,4 +1,4 @@
-//! A run of a live group from a source to a sink: the lines of the input are judged, the group runs in threads, and the
+//! A run of a live group from a source to a sink: the lines of the input are tested, the group runs in threads, and the
 //! journals and catalogues of its members are written.
 //!
 //! What is promised of it: `docs/promises/live_top.md`.

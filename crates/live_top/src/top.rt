@@ -42,7 +42,7 @@ pub fn run_live<R: Threads + Wait + Sync, S: Source, K: Sink, D: Draws, G: Gate 
     ensures usage { UsageIsOfWords (map string_bytes words.now) result
         (source.new ≡ source.old) (sink.new ≡ sink.old) }
 
-    // On `Done` and `Refused` the status is what the lines of the input come to: the first that is refused, or that all
+    // On `Done` and `Refused` the status is the result of the input's lines: the first that is refused, or that all
     // are taken. No line brings octets, so none is foreign.
     ensures lines { IsOfLines (S.left source.old) result }
 
@@ -116,7 +116,7 @@ fn refusal_line(alloc: Global, line: u32, why: Refusal) -> Result<Vec<u8>, Alloc
     Ok(text)
 }
 
-// Runs the group, and writes and leaves what came of it.
+// Runs the group, and writes and leaves its result.
 fn run_script<R: Threads + Wait + Sync, K: Sink, D: Draws, G: Gate + Sync>(
     rt: &R,
     alloc: Global,

@@ -1,4 +1,4 @@
--- What octets are as a Data packet, or the first fault (NDN Packet Format 0.3, "Data Packet").
+-- How octets are read as a Data packet, or the first fault (NDN Packet Format 0.3, "Data Packet").
 use Rattle.std.specs.Prelude.{◌≡◌, ◌⊎◌, ℕ, ◌≤◌, Bool, IsTrue, List, [], ◌∷◌, ◌++◌, Option, Some, None, option_map}
 use Rattle.std.specs.Prelude.{IfSome, Result, Ok, slice_range}
 use Rattle.ndn_tlv.specs.Types as types

@@ -1,4 +1,4 @@
--- What octets are as an Interest, or the first fault (NDN Packet Format 0.3, "Interest Packet" and
+-- How octets are read as an Interest, or the first fault (NDN Packet Format 0.3, "Interest Packet" and
 -- "Signed Interest").
 use Rattle.std.specs.Prelude.{◌≡◌, ℕ, ◌-◌, ◌≤◌, Bool, true, false, not, ◌&&◌, is_some, is_none, List, [], ◌∷◌, ◌++◌}
 use Rattle.std.specs.Prelude.{length, take, drop, slice_get, slice_range, Option, Some, None, option_map, MatchOption}

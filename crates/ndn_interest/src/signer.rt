@@ -8,7 +8,7 @@ use ndn_packet::SIGNATURE_HMAC_WITH_SHA256;
 use ndn_sign::KeyRing;
 
 /// The number of the key in the ring under which an Interest is signed (NDN Packet Format 0.3, "Signed Interest"; RFC
-/// 2104). It takes no memory.
+/// 2104). It allocates nothing.
 pub fn signer_of(interest: &InterestView<'_>, ring: &KeyRing) -> Result<u32, SignatureError>
     ensures { MatchResult result
         (λ signer. signer_of ring.now (interest_seen interest.now) ≡ Ok signer)

@@ -1,4 +1,4 @@
--- Names, the octets that they are written in, and what octets are as a name (NDN Packet Format 0.3,
+-- Names, the octets that they are written in, and how octets are read as a name (NDN Packet Format 0.3,
 -- "Name").
 use Rattle.std.specs.Prelude.{◌≡◌, ℕ, ◌<◌, ◌≤◌, ◌^◌, List, [], ◌∷◌, ◌++◌, length, map, Result, Ok, Err, not, ◌&&◌}
 use Rattle.std.specs.Prelude.{nat_lt, nat_le, ◌==◌, if◌then◌else◌}
@@ -48,7 +48,7 @@ unfoldable pub encoding : List Component → List ℕ
 encoding [] = []
 encoding (c ∷ cs) = element c.0 c.1 ++ encoding cs
 
--- ---- what octets are as a name
+-- ---- octets read as a name
 
 -- The component that an element is.
 abbrev pub component_of : Item → Result Component NameFault

@@ -32,7 +32,7 @@ pub(crate) fn append_component(
     Ok(())
 }
 
-// Whether a value of so many octets has room for a component of this type with so many octets.
+// Whether a component of this type with so many octets fits into a name whose value has so many octets.
 fn has_room(octets: usize, typ: u16, len: usize) -> bool
     requires { octets ≤ NAME_LIMIT }
     ensures { IsTrue result ↔ (octets + (length (head typ len) + len) ≤ NAME_LIMIT) }
@@ -41,7 +41,7 @@ fn has_room(octets: usize, typ: u16, len: usize) -> bool
     len <= room && head_len(u32::from(typ), len) <= room - len
 }
 
-// Appends the parts of a component that a name has room for, as far as memory goes.
+// Appends the parts of a component that fits into the name, as far as memory goes.
 fn append_parts(octets: &mut Vec<u8>, typ: u16, value: &[u8]) -> Result<(), AllocError>
     requires { length value.now ≤ NAME_LIMIT }
     ensures ok { OnOk result (octets.new.items ≡ octets.old.items ++ element typ value.now) }

@@ -40,7 +40,7 @@ pub fn canonical_order_is_total()
     ensures { IsTotalOrder canonical_cmp }
 {}
 
-/// The canonical order tells apart all names that differ.
+/// The canonical order distinguishes all names that differ.
 pub fn equals_are_in_no_order()
     ensures same { (a : List Component) → canonical_cmp a a ≡ Equal }
     ensures differ { (a b : List Component) → canonical_cmp a b ≡ Equal → a ≡ b }

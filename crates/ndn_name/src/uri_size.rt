@@ -18,7 +18,7 @@ use ndn_tlv::{head_len, types};
 /// How many octets the value of the name has whose URI the text is, where the name has no digest: no
 /// component of type 1 or 2.
 ///
-/// It takes no memory, and the name may be longer than a `Name` can be. Where it isn't,
+/// It allocates nothing, and the name may be longer than a `Name` can be. Where it isn't,
 /// `Name::from_uri` gives it.
 pub fn plain_uri_len(text: &str) -> Option<usize>
     ensures { result ≡ option_map (λ name. length (encoding name)) (plain_name_of_text text.now) }

@@ -56,7 +56,7 @@ MustBeFresh = 0x12
 abbrev pub ForwardingHint : ℕ
 ForwardingHint = 0x1e
 
--- Four octets that tell apart Interests of the same name ("Interest Packet").
+-- Four octets that distinguish Interests of the same name ("Interest Packet").
 abbrev pub Nonce : ℕ
 Nonce = 0x0a
 

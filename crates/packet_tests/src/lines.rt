@@ -17,7 +17,7 @@ fn lines_are_read(rt: HostRuntime) {
     }
 }
 
-// A line is read as what is reported of it.
+// A line is read as its report says.
 fn tells(rt: &(impl Abort + AllocGlobal), line: &[u8], answer: &str) {
     let mut told = String::new(rt.alloc());
     put_told(rt.alloc(), &mut told, &read_line(rt.alloc(), line)).expect(rt, "memory");
@@ -189,7 +189,7 @@ fn ends_as(rt: &(impl Abort + AllocGlobal), words: &mut Words, script: &str, ans
     same(rt, came, answer, script);
 }
 
-// What comes of a line.
+// The result of a line.
 fn taken(alloc: Global, words: &mut Words, line: &str) -> &'static str {
     taken_of(words, &read_line(alloc, line.as_bytes()))
 }
@@ -214,7 +214,7 @@ fn checked(answer: Result<(), CheckFault>) -> &'static str {
     }
 }
 
-// Lines after a group, a member and a client, each so often, and what comes of the last: totals that are reached are
+// Lines after a group, a member and a client, each so often, and the result of the last: totals that are reached are
 // not passed.
 const TOTALS: [(&str, u32, &str, &str, &str); 5] = [
     ("settle 1", 1_000, "summary", "settle 1", "TooLarge"),

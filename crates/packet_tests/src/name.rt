@@ -152,7 +152,7 @@ fn digests_are_read_and_printed(rt: &(impl Abort + AllocGlobal)) {
     is(rt, name_of(rt, FULL_IN_CAPITALS) == full, "in capitals");
 }
 
-// A name that has no room for a further component.
+// A name that can't have a further component.
 fn longest(rt: &(impl Abort + AllocGlobal)) -> Name {
     let letters = vec![in rt.alloc(); b'a'; 996].expect(rt, "memory");
     let mut long = Name::new(rt.alloc());

@@ -40,7 +40,7 @@ const TWO_NUMBERS: [u8; 19] = [
     0xc9, 0x11, 0xca, 0x0f, 7, 7, 8, 5, 97, 108, 105, 99, 101, 0xcc, 1, 3, 0xcc, 1, 5,
 ];
 
-// Octets, and the numbers of alice and bob that they tell.
+// Octets, and the numbers of alice and bob that they have.
 const TOLD: [(&[u8], u16, u16); 4] = [
     (&[0xc9, 0], 0, 0),
     (&WRITTEN, 3, 0),
@@ -69,7 +69,7 @@ const BOTH: [u8; 29] = [
     99, 101, 0xcc, 1, 255,
 ];
 
-// The numbers of alice and bob, and the octets that tell them.
+// The numbers of alice and bob, and the octets that have them.
 const VECTORS: [(u16, u16, &[u8]); 3] = [(0, 0, &[0xc9, 0]), (3, 0, &WRITTEN), (255, 258, &BOTH)];
 
 #[test]

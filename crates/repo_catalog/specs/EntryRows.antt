@@ -3,7 +3,7 @@ use Rattle.std.specs.Prelude.{ℕ, ◌-◌, ◌≤◌, List, length, drop, vec_c
 use Rattle.repo_catalog.specs.declared.entry.Entry.{Entry}
 use Rattle.repo_catalog.specs.declared.entry_row.EntryRow.TheInside.{Inside}
 
--- Entries, and how many there is room for in all.
+-- Entries, and for how many there is capacity in all.
 pub record Row : Type 0 where
   pub items : List Entry
   pub capacity : ℕ

@@ -1,4 +1,4 @@
--- What the objects of entries come to, as a catalogue keeps it.
+-- The totals of the objects of entries, as a catalogue keeps them.
 use Rattle.std.specs.Prelude.{◌^◌, ◌%◌, List}
 use Rattle.std.specs.List.{sum_by}
 use Rattle.repo_catalog.specs.declared.entry.Entry.{Entry}

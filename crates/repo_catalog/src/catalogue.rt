@@ -49,7 +49,7 @@ impl Drop for Catalogue {
     }
 }
 
-// A catalogue is seen as the list of its entries, beside the number of entries that there is room for.
+// A catalogue is seen as the list of its entries, with the number of entries for which there is capacity.
 impl Model for Catalogue {
     ghost use Rattle.repo_catalog.specs.Entries.{EntryList};
 
@@ -90,7 +90,7 @@ impl Catalogue {
         Ok(self.add_reserved(entry))
     }
 
-    /// Makes room for `n` entries, unless there is room for so many already, and from the first removal on for finding
+    /// Reserves capacity for `n` entries, unless there is as much already, and from the first removal on for finding
     /// all by their names, so that a removal needs no walk over those that were added before.
     pub fn reserve(&mut self, n: usize) -> Result<(), AllocError>
         ensures ok { OnOk result (self.new ≡ record self.old { spare = max self.old.spare n }) }
@@ -105,8 +105,8 @@ impl Catalogue {
         Ok(())
     }
 
-    /// Adds an entry as `add` does, in the room that was made for one, which is used up even where the answer is
-    /// `false`. It takes no memory.
+    /// Adds an entry as `add` does, within the capacity reserved for one, which is used up even where the answer is
+    /// `false`. It allocates nothing.
     pub fn add_reserved(&mut self, entry: Entry) -> bool
         requires { 0 < self.old.spare }
         ensures added { result ≡ not (lists (publication_of entry) self.old.entries) }
@@ -123,8 +123,8 @@ impl Catalogue {
         true
     }
 
-    /// Adds many entries as `add_reserved` does, in any order, in the room that was made for them. They are moved out
-    /// of `fresh`, which keeps its capacity. It takes no memory. Where they are few, each moves what stands after it;
+    /// Adds many entries as `add_reserved` does, in any order, with the capacity reserved for them. They are moved out
+    /// of `fresh`, which keeps its capacity. It allocates nothing. Where they are few, each moves what stands after it;
     /// else it goes over them and over what stands after the least of them once.
     pub fn add_all_reserved(&mut self, fresh: &mut Vec<Entry>)
         requires room { length fresh.old.items ≤ self.old.spare }
@@ -162,7 +162,7 @@ impl Catalogue {
         }
     }
 
-    /// Removes the entry of a publisher and number, and tells whether there was one.
+    /// Removes the entry of a publisher and number, and returns whether there was one.
     pub fn remove(&mut self, publisher: u32, seq: u16) -> bool
         ensures removed { result ≡ lists (publisher, seq) self.old.entries }
         ensures left { self.new ≡ record self.old { entries = without (publisher, seq) self.old.entries } }
@@ -187,8 +187,8 @@ impl Catalogue {
     }
 
     /// Removes the entries of many publications, which are in order, in one pass. Where they are few, only what stands
-    /// after each is moved, and nothing else is read; after the first entry nothing moves. It takes no memory. The
-    /// names of entries that were added since the last removal are hashed, where room was made since the first.
+    /// after each is moved, and nothing else is read; after the first entry nothing moves. It allocates nothing. The
+    /// names of entries that were added since the last removal are hashed, where capacity was reserved since the first.
     pub fn remove_all(&mut self, publications: &[(u32, u16)])
         requires { Rises pair_cmp publications.now }
         ensures { self.new ≡ record self.old { entries = without_all publications.now self.old.entries } }
@@ -266,7 +266,7 @@ impl Catalogue {
         let _ = &self.entries;
     }
 
-    // Puts the names of all entries into the index, where there is room for them.
+    // Puts the names of all entries into the index, where there is capacity for them.
     fn order_names(&mut self)
         ensures { self.new ≡ self.old }
     {

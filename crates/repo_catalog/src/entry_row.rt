@@ -14,7 +14,7 @@ use crate::search::is_among;
 use std::alloc::{AllocError, Global};
 use std::marker::Model;
 
-// Entries, and room for more. Those that were removed from the start, one after the other, stay in front of the others,
+// Entries, and capacity for more. Those that were removed from the start, one after the other, stay before the others,
 // until they are more than these: so no other is moved where the first one goes.
 #[derive(Debug, Drop)]
 pub(crate) struct EntryRow {
@@ -22,7 +22,7 @@ pub(crate) struct EntryRow {
     gone: usize,
 }
 
-// A row is seen as the list of its entries, beside the number of entries that there is room for.
+// A row is seen as the list of its entries, with the number of entries for which there is capacity.
 impl Model for EntryRow {
     ghost use Rattle.repo_catalog.specs.EntryRows.{Row};
 
@@ -58,7 +58,7 @@ impl EntryRow {
         self.all.capacity() - self.gone
     }
 
-    // Makes room for so many more.
+    // Reserves capacity for so many more.
     pub(crate) fn reserve(&mut self, n: usize) -> Result<(), AllocError>
         ensures items { self.new.items ≡ self.old.items }
         ensures grows { self.old.capacity ≤ self.new.capacity }
@@ -67,7 +67,7 @@ impl EntryRow {
         self.all.reserve(n)
     }
 
-    // Puts an entry in this place, where there is room.
+    // Puts an entry in this place, where there is capacity.
     pub(crate) fn insert(&mut self, place: usize, entry: Entry)
         requires place { place ≤ length self.old.items }
         requires room { length self.old.items < self.old.capacity }
@@ -113,13 +113,13 @@ impl EntryRow {
         requires kept { AreKept self.old.items aside.old.items names.old entry_totals.old }
         requires fresh_in_order { IsCatalogue fresh.old.items }
         requires room { HasRoom (length fresh.old.items)
-          (room_of self.old.items self.old.capacity (vec_capacity aside.old) names.old) }
+            (room_of self.old.items self.old.capacity (vec_capacity aside.old) names.old) }
         ensures entries { self.new.items ≡ with_entries fresh.old.items self.old.items }
         ensures kept { AreKept self.new.items aside.new.items names.new entry_totals.new }
         ensures moved { fresh.new.items ≡ [] }
         ensures room { TakesRoom (length fresh.old.items)
-          (room_of self.old.items self.old.capacity (vec_capacity aside.old) names.old)
-          (room_of self.new.items self.new.capacity (vec_capacity aside.new) names.new) }
+            (room_of self.old.items self.old.capacity (vec_capacity aside.old) names.old)
+            (room_of self.new.items self.new.capacity (vec_capacity aside.new) names.new) }
         ensures room_fresh { vec_capacity fresh.old ≤ vec_capacity fresh.new }
     {
         close(&mut self.all, &mut self.gone);

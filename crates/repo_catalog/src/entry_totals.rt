@@ -1,4 +1,4 @@
-// What the objects of entries come to.
+// The totals of the objects of entries.
 ghost use Rattle.std.specs.Prelude.{◌≡◌, ◌∷◌, [], List};
 ghost use Rattle.repo_catalog.specs.EntryTotals.{totals_of};
 

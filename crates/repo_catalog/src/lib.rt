@@ -1,4 +1,4 @@
-//! The catalogue of a member: the objects that it published or wholly fetched and checked, in order of publisher and
+//! The catalogue of a member: the objects that it published or fetched whole and checked, in order of publisher and
 //! number, and found by name too.
 //!
 //! What is promised of it: `docs/promises/repo_catalog.md`.

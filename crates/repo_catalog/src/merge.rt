@@ -24,13 +24,13 @@ pub(crate) fn merge(
     requires kept { AreKept entries.old.items aside.old.items names.old entry_totals.old }
     requires fresh_in_order { IsCatalogue fresh.old.items }
     requires room { HasRoom (length fresh.old.items)
-      (room_of entries.old.items (vec_capacity entries.old) (vec_capacity aside.old) names.old) }
+        (room_of entries.old.items (vec_capacity entries.old) (vec_capacity aside.old) names.old) }
     ensures entries { entries.new.items ≡ with_entries fresh.old.items entries.old.items }
     ensures kept { AreKept entries.new.items aside.new.items names.new entry_totals.new }
     ensures moved { fresh.new.items ≡ [] }
     ensures room { TakesRoom (length fresh.old.items)
-      (room_of entries.old.items (vec_capacity entries.old) (vec_capacity aside.old) names.old)
-      (room_of entries.new.items (vec_capacity entries.new) (vec_capacity aside.new) names.new) }
+        (room_of entries.old.items (vec_capacity entries.old) (vec_capacity aside.old) names.old)
+        (room_of entries.new.items (vec_capacity entries.new) (vec_capacity aside.new) names.new) }
     ensures room_fresh { vec_capacity fresh.old ≤ vec_capacity fresh.new }
 {
     while let Some(entry) = fresh.pop() {

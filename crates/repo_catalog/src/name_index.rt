@@ -19,14 +19,14 @@ use std::marker::Model;
 pub(crate) type Key = (u64, (u32, u32));
 
 // Keys in order, and publications that wait for theirs. What is added waits. No name is hashed and there is no room for
-// keys until an entry is removed, since names serve deletion alone. There is room for more to wait.
+// keys until an entry is removed, since names serve deletion alone. There is capacity for more to wait.
 #[derive(Debug, Drop)]
 pub(crate) struct NameIndex {
     map: SortedMap<Key, ()>,
     waiting: Vec<(u32, u16)>,
-    // There is room for so many more that wait.
+    // There is capacity for so many more that wait.
     spare: usize,
-    // There is room for so many more keys.
+    // There is capacity for so many more keys.
     room: usize,
     // An entry was removed, so that room is made for the keys of all that wait.
     orders: bool,
@@ -60,7 +60,7 @@ impl NameIndex {
         }
     }
 
-    // Makes room for so many more publications to wait, and for the keys of all if an entry was removed.
+    // Reserves capacity for so many more publications to wait, and for the keys of all if an entry was removed.
     pub(crate) fn reserve(&mut self, n: usize) -> Result<(), AllocError>
         ensures keys { self.new.keys ≡ self.old.keys }
         ensures waiting { self.new.waiting ≡ self.old.waiting }
@@ -77,7 +77,7 @@ impl NameIndex {
         Ok(())
     }
 
-    // Makes room for the keys of all that wait, and of those that there is room for.
+    // Reserves capacity for the keys of all that wait, and of as many more as may wait.
     fn reserve_keys(&mut self) -> Result<(), AllocError>
         ensures keys { self.new.keys ≡ self.old.keys }
         ensures waiting { self.new.waiting ≡ self.old.waiting }
@@ -94,7 +94,7 @@ impl NameIndex {
         Ok(())
     }
 
-    // The publication, for which there is room, waits from now on.
+    // The publication, for which there is capacity, waits from now on.
     pub(crate) fn wait(&mut self, publication: (u32, u16))
         requires { 0 < self.old.spare }
         ensures keys { self.new.keys ≡ self.old.keys }
@@ -105,7 +105,7 @@ impl NameIndex {
         self.waiting.push(publication).unwrap();
     }
 
-    // Puts the keys of all that wait in their places, where there is room for all. It takes no memory.
+    // Puts the keys of all that wait in their places, where there is capacity for all. It allocates nothing.
     pub(crate) fn order(&mut self, entries: &[Entry])
         requires in_order { IsCatalogue entries.now }
         requires indexed { IsIndexOf entries.now self.old.keys self.old.waiting }
@@ -151,7 +151,7 @@ impl NameIndex {
     }
 }
 
-// Puts the keys of publications that wait into a map that has room for them. One that has no entry any more has none.
+// Puts the keys of publications that wait into a map with capacity for them. One that has no entry any more has none.
 fn put_in_place(map: &mut SortedMap<Key, ()>, waiting: &mut Vec<(u32, u16)>, entries: &[Entry])
     requires in_order { IsCatalogue entries.now }
     requires keys { AreKeysOf entries.now (keys map.old.entries) waiting.old.items }

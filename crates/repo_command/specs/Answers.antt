@@ -1,4 +1,4 @@
--- Answers to commands: the octets that they are written in, and what octets are as an answer.
+-- Answers to commands: the octets that they are written in, and how octets are read as an answer.
 use Rattle.std.specs.Prelude.{ℕ, ◌<◌, ◌^◌, List, [], ◌∷◌, ◌++◌, Option, Some, None, ok_or, Result, Ok, nat_lt, ◌==◌}
 use Rattle.std.specs.Prelude.{if◌then◌else◌}
 use Rattle.std.specs.Option.{option_and_then}

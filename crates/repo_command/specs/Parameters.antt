@@ -1,4 +1,4 @@
--- What octets are as the parameters of a command, or that they are none.
+-- How octets are read as the parameters of a command, or that they are none.
 use Rattle.std.specs.Prelude.{ℕ, ◌-◌, ◌&&◌, List, [], ◌∷◌, Option, Some, None, ok_or, Result, Ok, Err, nat_le, nat_lt}
 use Rattle.std.specs.Prelude.{◌==◌, if◌then◌else◌}
 use Rattle.ndn_tlv.specs.declared.order_table.FieldError.{FieldError}

@@ -51,7 +51,7 @@ pub fn status_codes_are_the_profiles()
     ensures not_found { NOT_FOUND ≡ status.NotFound }
 {}
 
-/// The command that was made is checked: it tells the command that was given, and the number of the client's key in the
+/// The command that was made is checked: it is the command that was given, with the number of the client's key in the
 /// ring. One that goes beyond the limits is refused as such.
 pub fn made_commands_are_checked()
     ensures { (node key_name : List Component) (command : Command) (key : List ℕ) (ring : List NamedKey) (client : ℕ)

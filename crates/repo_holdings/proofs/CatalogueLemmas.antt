@@ -122,7 +122,7 @@ entry_is_of packets pair e h = go (is_withdrawn packets pair) h where
   go true p = absurd (none_is_some e p)
   go false p = whole_is_of packets pair e p
 
--- an object that is listed is not withdrawn, and stored wholly
+-- an object that is listed is not withdrawn, and stored whole
 pub entry_not_withdrawn : (packets : List Packet) (pair : Pair) (e : Entry) → entry_at packets pair ≡ Some e
     → is_withdrawn packets pair ≡ false
 entry_not_withdrawn packets pair e h = go (is_withdrawn packets pair) h where
@@ -130,7 +130,7 @@ entry_not_withdrawn packets pair e h = go (is_withdrawn packets pair) h where
   go true p = absurd (none_is_some e p)
   go false p = refl
 
--- where nothing is stored wholly, nothing is listed
+-- where nothing is stored whole, nothing is listed
 pub entry_of_none : (packets : List Packet) (pair : Pair) → whole_at packets pair ≡ None → entry_at packets pair ≡ None
 entry_of_none packets pair h = go (is_withdrawn packets pair) where
   go : (b : Bool) → cond b None (whole_at packets pair) ≡ None

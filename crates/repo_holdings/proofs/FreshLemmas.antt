@@ -379,7 +379,7 @@ numbers_after p i n h =
           subst (λ (k : ℕ). list_all p (numbers_from k n) ≡ true) same
           (later i (first + 1) (and_parts (p first) (list_all p (numbers_from (first + 1) (i + n))) cut).1)
 
--- and so does the entry of what is stored wholly
+-- and so does the entry of what is stored whole
 module _ (packets after : List Packet) (pair : Pair) (e : Entry) (stays : StayStored packets after) where
   -- the parts are stored, with the same contents
   pub all_stay : (xs : List ℕ) → list_all (λ x. is_some (stored_at packets pair x)) xs ≡ true

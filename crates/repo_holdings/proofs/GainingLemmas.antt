@@ -378,7 +378,7 @@ module _ (plan : PlanState) (packets : List Packet) (pair : Pair) (tied : AreTie
       && list_all (λ x. is_some (stored_at packets pair x)) (numbers_from 1 (last_part (listed_shape l))))
       (record_there l h)
 
-  -- an object is stored wholly exactly where it is complete
+  -- an object is stored whole exactly where it is complete
   pub complete_whole : (l : Listed) → listing_at packets pair ≡ Some l
       → is_some (whole_at packets pair) ≡ is_complete plan pair
   complete_whole l h =

@@ -24,7 +24,7 @@ use Rattle.repo_holdings.specs.Noted.{NotesState, AreNotes}
 use Rattle.repo_holdings.specs.Changing.{withdraws_too, AreNotedWith}
 use Rattle.repo_holdings.proofs.CatalogueLemmas.{same_whole}
 
--- a name is taken from the notes, whose publication is stored wholly
+-- a name is taken from the notes, whose publication is stored whole
 pub noted_taken : (packets : List Packet) (pair : Pair) (old new : NotesState)
     → new ≡ record old { names = filter (λ e. not (eq_by_cmp pair_cmp pair e.0)) old.names }
     → ((q : Pair) → contains pair_cmp old.withdrawn q ≡ is_withdrawn packets q)

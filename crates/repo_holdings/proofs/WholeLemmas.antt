@@ -70,7 +70,7 @@ module _ (plan : PlanState) (packets : List Packet) (pair : Pair) (tied : AreTie
       some_of (listing_at packets pair) h
       (λ l listed is. subst (λ (o : Option Shape). IsSome o) (sym (shape_listed plan packets pair tied l listed)) refl)
 
--- a publication of which an asked part is missing is not stored wholly
+-- a publication of which an asked part is missing is not stored whole
 pub missing_unlisted : (plan : PlanState) (packets : List Packet) (t : Part) → AreTied plan packets
     → may_be_asked_for plan t ≡ true → holds plan t ≡ false → whole_at packets (pair_of t) ≡ None
 missing_unlisted plan packets t tied asked missing = go (t.part == 0) refl where

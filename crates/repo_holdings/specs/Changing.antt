@@ -63,7 +63,7 @@ pub record IsSaidNewly (pair : Pair) (said : Option RecordSummary) (notes : Note
     pub withdrawn : (q : Pair)
         → (withdraws_too pair said q || contains pair_cmp notes.withdrawn q) ≡ is_withdrawn packets q
 
--- the notes after that: the publications that are withdrawn, the publication's name as long as it is not stored wholly,
+-- the notes after that: the publications that are withdrawn, the publication's name as long as it is not stored whole,
 -- and the others' names
 pub record AreNotedWith (pair : Pair) (packets : List Packet) (old new : NotesState) : Type 0 where
   pub withdrawn : (q : Pair) → contains pair_cmp new.withdrawn q ≡ is_withdrawn packets q

@@ -64,7 +64,7 @@ abbrev pub summary_shape : RecordSummary → Shape
 summary_shape (Object shape name) = shape
 summary_shape (Withdrawal seq) = shape_of_segments 0
 
--- what the packet of a part tells: nothing, unless the part is a record
+-- what the packet of a part says: nothing, unless the part is a record
 abbrev pub summary_in : Part → List ℕ → Option RecordSummary
 summary_in t octets = if t.part == 0 then option_map summary_of (stated_in octets) else None
 

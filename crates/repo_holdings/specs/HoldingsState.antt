@@ -14,7 +14,7 @@ pub record HoldingsState : Type 0 where
   pub hidden : List Pair  -- in order
   pub claims : List (Option Part)  -- by fetcher; the first stands at place 0
   pub attempts : List (Part × ℕ)  -- in order, without 0
-  pub spare : ℕ  -- for how many more parts there is room
+  pub spare : ℕ  -- for how many more parts there is capacity
 
 -- nothing is known of so many publishers
 abbrev pub nothing_held : ℕ → HoldingsState
@@ -27,7 +27,7 @@ nothing_held publishers = record {
   spare = 0;
 }
 
--- the fetch plan: what is stored is held, and the stored records tell which parts there are
+-- the fetch plan: what is stored is held, and the stored records say which parts there are
 abbrev pub held_plan : HoldingsState → PlanState
 held_plan h = record {
   known = h.known;

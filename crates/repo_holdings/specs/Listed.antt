@@ -1,4 +1,4 @@
--- Which publications stored packets are: what their records say, which objects are stored wholly, and which of those
+-- Which publications stored packets are: what their records say, which objects are stored whole, and which of those
 -- are not withdrawn.
 use Rattle.std.specs.Prelude.{ℕ, ◌+◌, [], Bool, false, List, map, length, Option, Some, None}
 use Rattle.std.specs.Prelude.{option_map, is_some, unwrap_or, if◌then◌else◌}
@@ -87,7 +87,7 @@ contents_from packets pair x n = flat_map (stored_content packets pair) (numbers
 abbrev pub contents_joined : List Packet → Pair → Shape → List ℕ
 contents_joined packets pair shape = contents_from packets pair (shape.index + 1) shape.segments
 
--- ---- objects that are stored wholly
+-- ---- objects that are stored whole
 
 -- whether the first so many parts after the record of a publication are stored
 abbrev pub are_stored : List Packet → Pair → ℕ → Bool
@@ -115,7 +115,7 @@ whole_at packets pair = option_and_then (entry_listed packets pair) (listing_at 
 
 -- ---- the catalogue
 
--- the entry of an object that is stored wholly and not withdrawn
+-- the entry of an object that is stored whole and not withdrawn
 abbrev pub entry_at : List Packet → Pair → Option Entry
 entry_at packets pair = if is_withdrawn packets pair then None else whole_at packets pair
 

@@ -45,7 +45,7 @@ pub record IsNew (plan : PlanState) (pair : Pair) : Type 0 where
   pub not_hidden : hides plan pair ≡ false
   pub not_claimed : (x : ℕ) → is_claimed plan (part_of pair x) ≡ false
 
--- its packets are held, where there is room for them
+-- its packets are held, where there is capacity for them
 abbrev pub publishes_too : Pair → List (List ℕ) → HoldingsState → HoldingsState
 publishes_too pair made h = record h {
   store = with_packets (as_parts pair 0 made) h.store;

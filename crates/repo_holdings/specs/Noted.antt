@@ -9,7 +9,7 @@ use Rattle.repo_holdings.specs.Records.{Packet}
 use Rattle.repo_holdings.specs.Listed.{listing_at, whole_at, is_withdrawn}
 use Rattle.repo_holdings.specs.declared.notes.Notes.TheInside.{Inside}
 
--- names of objects by publication, the publications that are withdrawn, and for how many more there is room
+-- names of objects by publication, the publications that are withdrawn, and for how many more there is capacity
 pub record NotesState : Type 0 where
   pub names : List (Pair × List Component)  -- in order
   pub withdrawn : List Pair  -- in order
@@ -23,7 +23,7 @@ noted n = record {
   spare = n.spare;
 }
 
--- there is the room that is spare
+-- there is the capacity that is spare
 pub record AreRoomy (n : Inside) : Type 0 where
   pub names : n.spare ≤ spare n.names
   pub withdrawn : n.spare ≤ n.withdrawn.spare

@@ -19,7 +19,7 @@ index_count x l =
     else if nat_le x (listed_shape l).index then Some (listed_in l.segments (x - 1))
     else None
 
--- how many digests the packet of a part must list, as the stored record tells: only index packets list some
+-- how many digests the packet of a part must list, as the stored record says: only index packets list some
 abbrev pub lists_at : List Packet → Part → Option ℕ
 lists_at packets t = option_and_then (index_count t.part) (listing_at packets (pair_of t))
 

@@ -1,4 +1,4 @@
--- What came of parts that were asked for, and how it is taken.
+-- The results of parts that were asked for, and how they are taken.
 use Rattle.std.specs.Prelude.{◌≡◌, ℕ, ◌+◌, ◌-◌, ◌<◌, ◌==◌, true, false, List, [], ◌∷◌, map, length, Option, Some, None}
 use Rattle.std.specs.Prelude.{◌≤◌, ◌^◌, filter, is_some, option_map, unwrap_or, count_by, sum_by, vec_capacity, IfSome}
 use Rattle.std.specs.Prelude.{if◌then◌else◌}
@@ -25,7 +25,7 @@ use Rattle.repo_holdings.specs.declared.holdings.taking.Tried.{Tried}
 use Rattle.repo_holdings.specs.Changing.{changed, fresh_with, gone_with}
 use Rattle.repo_holdings.specs.Stock.{IsSound, HasRoom}
 
--- what came of a part that was asked for: its packet, if one came, and how often it was tried
+-- the result of a part that was asked for: its packet, if one was received, and how often it was tried
 pub record Fetched : Type 0 where
   pub part : Part
   pub packet : Option (List ℕ)
@@ -47,7 +47,7 @@ abbrev pub PartsDiffer : List Part → Type 0
 PartsDiffer [] = Unit {0}
 PartsDiffer (t ∷ ts) = (contains part_cmp ts t ≡ false) × PartsDiffer ts
 
--- what came of a tried part
+-- the result of a tried part
 abbrev pub came : Tried → Fetched
 came x = record { part = x.part; packet = option_map (λ a. a.packet) x.arrival; attempts = x.attempts }
 
@@ -55,7 +55,7 @@ came x = record { part = x.part; packet = option_map (λ a. a.packet) x.arrival;
 abbrev pub arrival_octets : Tried → ℕ
 arrival_octets x = length (unwrap_or (came x).packet [])
 
--- what came of a tried part can be taken: the part is wanted and unclaimed, the packet is of it, and it was not tried
+-- the result of a tried part can be taken: the part is wanted and unclaimed, the packet is of it, and it was not tried
 -- too often
 pub record CanBeTaken (plan : PlanState) (packets : List Packet) (x : Tried) : Type 0 where
   pub asked : may_be_asked_for plan x.part ≡ true
@@ -90,7 +90,7 @@ abbrev pub with_all_tries : List Fetched → List (Part × ℕ) → List (Part �
 with_all_tries [] attempts = attempts
 with_all_tries (x ∷ xs) attempts = with_all_tries xs (with_tries x.part x.attempts attempts)
 
--- all of it is taken, where there is room for it
+-- all of it is taken, where there is capacity for it
 abbrev pub after_outcome : List Fetched → HoldingsState → HoldingsState
 after_outcome xs h = record h {
   store = with_all_fetched xs h.store;
@@ -109,7 +109,7 @@ abbrev pub AreApartPairs : List Pair → Type 0
 AreApartPairs pairs = (pair : Pair) → length (filter (eq_by_cmp pair_cmp pair) pairs) ≤ 1
 
 -- entries that wait to be listed are, put among the others, and without those of publications that wait to be removed,
--- the entries of the objects that are stored wholly and not withdrawn
+-- the entries of the objects that are stored whole and not withdrawn
 pub record AreListedWith (fresh : List Entry) (gone : List Pair) (entries : List Entry) (packets : List Packet)
     : Type 0 where
   pub listed : without_all gone (with_entries fresh entries) ≡ member_catalogue packets

@@ -12,7 +12,7 @@ use Rattle.repo_holdings.specs.declared.holdings.whole.Whole.{Whole}
 abbrev pub joined : List (Bor (List ℕ)) → List ℕ
 joined pieces = flat_map (λ piece. piece.now) pieces
 
--- these are the contents of the publication, where it is stored wholly
+-- these are the contents of the publication, where it is stored whole
 abbrev pub AreContentsIn : List Packet → Pair → List (Bor (List ℕ)) → Type 0
 AreContentsIn packets pair contents = IfSome (whole_at packets pair) (IsOver (joined contents))
 

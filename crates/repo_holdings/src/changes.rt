@@ -44,7 +44,7 @@ impl Change {
         Change::Nothing
     }
 
-    // Makes the change, where there is room for an entry. It takes no memory.
+    // Makes the change, where there is capacity for an entry. It allocates nothing.
     pub(crate) fn make(self, catalogue: &mut Catalogue)
         requires { 0 < catalogue.old.spare }
         ensures entries { catalogue.new.entries ≡ changed self catalogue.old.entries }
@@ -62,7 +62,7 @@ impl Change {
     }
 }
 
-// Notes what is newly said of a publication, for which there is room, and answers what changes in the catalogue.
+// Notes what is newly said of a publication, for which there is capacity, and answers what changes in the catalogue.
 // Digests over contents that are given aren't made again.
 pub(crate) fn change_by_summary(
     plan: &Plan,
@@ -95,7 +95,7 @@ pub(crate) fn change_by_summary(
 }
 
 // The entry of an object whose name is noted, where its record and every part after it are stored and it is not
-// withdrawn. The name of an object that is stored wholly is noted no more.
+// withdrawn. The name of an object that is stored whole is noted no more.
 fn entry_if_whole(
     plan: &Plan,
     store: &Store,

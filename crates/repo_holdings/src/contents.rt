@@ -23,7 +23,7 @@ pub struct ContentsDigest {
     pub digest: [u8; 32],
 }
 
-// How many octets the contents of an object that is stored wholly have together, and their digest: as they are given,
+// How many octets the contents of an object that is stored whole have together, and their digest: as they are given,
 // or else as they are found now. A digest is found among those that are given where these are in order.
 pub(crate) fn given_or_made(
     store: &Store,

@@ -37,13 +37,13 @@ pub use whole::Whole;
 /// catalogue of the objects of which no part is missing and that are not withdrawn.
 ///
 /// A call that is refused has changed nothing, running out of memory included. Room is made first, by `reserve`; a call
-/// that uses it takes no memory.
+/// that uses it allocates nothing.
 pub struct Holdings {
     stock: Stock,
     catalogue: Catalogue,
     // Empty, except while packets are taken.
     pending: Pending,
-    // There is room for so many more parts, each of which may be held and be tried, and for as many entries.
+    // There is capacity for so many more parts, each of which may be held and be tried, and for as many entries.
     spare: usize,
 }
 
@@ -91,7 +91,7 @@ impl Holdings {
         })
     }
 
-    /// Makes room for so many parts, each of which may be held and be tried, and for as many entries of the catalogue.
+    /// Reserves capacity for so many parts, each of which may be held and be tried, and for as many catalogue entries.
     pub fn reserve(&mut self, n: usize) -> Result<(), AllocError>
         ensures ok { OnOk result (self.new ≡ record self.old { spare = max self.old.spare n }) }
         ensures err { OnErr result (self.new ≡ self.old) }
@@ -123,14 +123,14 @@ impl Holdings {
         self.stock.store.len()
     }
 
-    /// The octets of the packet of a part that is held. It takes no memory.
+    /// The octets of the packet of a part that is held. It allocates nothing.
     pub fn packet(&self, part: Part) -> Option<&[u8]>
         ensures { option_map (λ octets. octets.now) result ≡ value_of part_cmp self.now.store part }
     {
         self.stock.store.get(part)
     }
 
-    /// The packet of a part that is held, which may be shared. It takes no memory.
+    /// The packet of a part that is held, which may be shared. It allocates nothing.
     pub fn stored(&self, part: Part) -> Option<&Packet>
         ensures { option_map (λ packet. packet.now) result ≡ value_of part_cmp self.now.store part }
     {
@@ -138,14 +138,14 @@ impl Holdings {
     }
 
     /// Puts what waits in order of the packets' names, so that it is found faster. Nothing that is held changes. It
-    /// takes no memory.
+    /// allocates nothing.
     pub fn order_names(&mut self)
         ensures { self.new ≡ self.old }
     {
         self.stock.store.order_names();
     }
 
-    /// What an Interest is answered by: the packet of the least part that satisfies it. It takes no memory.
+    /// What an Interest is answered by: the packet of the least part that satisfies it. It allocates nothing.
     pub fn serve(&self, interest: &[u8]) -> Result<Option<&[u8]>, PacketFault>
         ensures { MatchResult result
             (λ found. served interest.now self.now.store ≡ Ok (option_map (λ octets. octets.now) found))
@@ -162,7 +162,7 @@ impl Holdings {
     }
 }
 
-// Makes room for so many parts, records and entries.
+// Reserves capacity for so many parts, records and entries.
 fn make_room(
     stock: &mut Stock,
     pending: &mut Pending,

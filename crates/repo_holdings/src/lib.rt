@@ -1,5 +1,5 @@
 //! What is held of a group's publications: the plan of the parts that are held and wanted, the store of their packets,
-//! and the catalogue of the objects that are stored wholly and not withdrawn, under one invariant.
+//! and the catalogue of the objects that are stored whole and not withdrawn, under one invariant.
 //!
 //! What is promised of it: `docs/promises/repo_holdings.md`.
 #![tactic(auto)]

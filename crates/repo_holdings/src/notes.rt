@@ -16,7 +16,7 @@ use std::marker::Model;
 pub(crate) struct Notes {
     names: HashMap<(u32, u16), Name>,
     withdrawn: SortedMap<(u32, u16), ()>,
-    // There is room for so many more of each.
+    // There is capacity for so many more of each.
     spare: usize,
 }
 
@@ -44,7 +44,7 @@ impl Notes {
         }
     }
 
-    // Makes room for so many names and withdrawn publications, unless there is room for so many already.
+    // Reserves capacity for so many names and withdrawn publications, unless there is as much already.
     pub(crate) fn reserve(&mut self, n: usize) -> Result<(), AllocError>
         ensures names { self.new.names ≡ self.old.names }
         ensures withdrawn { self.new.withdrawn ≡ self.old.withdrawn }
@@ -57,7 +57,7 @@ impl Notes {
         Ok(())
     }
 
-    // The object of a publication has this name. It uses up the room for one.
+    // The object of a publication has this name. It uses up capacity for one.
     pub(crate) fn note_name(&mut self, publication: (u32, u16), name: Name)
         requires { 0 < self.old.spare }
         ensures names { self.new.names ≡ with_value pair_cmp publication name self.old.names }
@@ -78,7 +78,7 @@ impl Notes {
         self.names.remove(&publication)
     }
 
-    // The publication is withdrawn. It uses up the room for one. The answer is whether it was not withdrawn before.
+    // The publication is withdrawn. It uses up capacity for one. The answer is whether it was not withdrawn before.
     pub(crate) fn note_withdrawn(&mut self, publication: (u32, u16)) -> bool
         requires { 0 < self.old.spare }
         ensures fresh { result ≡ not (contains pair_cmp self.old.withdrawn publication) }

@@ -10,7 +10,7 @@ use repo_object::{Packet, RecordView};
 use repo_plan::{Part, Shape};
 use std::alloc::{AllocError, Global};
 
-/// What the record of a publication tells.
+/// What the record of a publication says.
 #[derive(Drop)]
 pub enum RecordSummary {
     /// It is an object of this name, and has the parts that the shape counts.
@@ -20,7 +20,7 @@ pub enum RecordSummary {
 }
 
 impl RecordSummary {
-    // What the record tells that a packet is known to be.
+    // What the record says that a packet is known to be.
     fn of_record(alloc: Global, packet: &[u8]) -> Result<RecordSummary, AllocError>
         requires { IsSome (stated_in packet.now) }
         ensures { IfOk result (λ summary. option_map summary_of (stated_in packet.now) ≡ Some summary) }
@@ -45,7 +45,7 @@ impl RecordSummary {
     }
 }
 
-/// A packet that came for a part, and what it tells, if it is a record.
+/// A packet that was received for a part, and what it says, if it is a record.
 #[derive(Drop)]
 pub struct Arrival {
     pub packet: Packet,

@@ -34,7 +34,7 @@ pub fn read_up_to<S: Source>(
     Ok(octets)
 }
 
-// Reads as many octets as one call gives, and tells how many. There is room for so many.
+// Reads as many octets as one call gives, and returns how many. There is capacity for so many.
 fn read_some<S: Source>(
     source: &mut S,
     octets: &mut Vec<u8>,

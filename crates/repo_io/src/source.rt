@@ -12,7 +12,7 @@ pub trait Source {
     /// How many calls failed. The count stays at 18,446,744,073,709,551,615.
     ghost faults: { Self → ℕ };
 
-    /// Puts octets at the beginning of `buf`, and tells how many. None for a `buf` that has room is the end.
+    /// Puts octets at the beginning of `buf`, and returns how many. None for a `buf` that isn't empty is the end.
     fn read(&mut self, buf: &mut [u8]) -> Result<usize, Failed>
         ensures count { IfOk result (λ n. n ≤ length buf.old) }
         ensures taken { IfOk result (λ n. Consumes (left self.old) (left self.new) (take n buf.new)) }

@@ -96,7 +96,7 @@ stays_taken (x ∷ xs) a =
 
 -- ---- a call
 
--- What is hidden stays hidden, and what is stored stays, but for what is hidden.
+-- What is hidden stays hidden, and what is stored stays, except what is hidden.
 record Keeps (old new : MemberState) : Type 0 where
   hidden : (pair : Pair) → hides (member_plan old) pair ≡ true → hides (member_plan new) pair ≡ true
   stored : (t : Part) (octets : List ℕ) → value_of part_cmp old.store t ≡ Some octets

@@ -65,7 +65,7 @@ learnt : (g : GroupKeys) (a : MemberState) (received : List ℕ) → CanBeReceiv
     → IsReached g (member_learns received a)
 learnt g a received can r = reached_learns g a received (can.width ∙ sym r.of) can.own r
 
--- only the machine changes
+-- only the sync state changes
 machine_too : (g : GroupKeys) (a : MemberState) (machine : SyncState) → machine.members ≡ a.machine.members
     → IsReached g a
     → IsReached g (record a { machine = machine })

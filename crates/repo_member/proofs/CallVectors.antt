@@ -105,7 +105,7 @@ set_joined (x ∷ v) (y ∷ w) (suc i) n m h = ap (λ (u : List ℕ). max x y �
 
 -- ---- a call
 
--- from one member to another by a call: what it knew is joined with what it was reported, but for its own number
+-- from one member to another by a call: what it knew is joined with what it heard, except its own number
 record Learns (received : List (List ℕ)) (old new : MemberState) : Type 0 where
   number : new.number ≡ old.number
   knows : KnowsOwn new

@@ -178,7 +178,7 @@ hears_consistent g logs received time draw a v t = record {
   packets = t.packets;
 }
 
--- only the machine changes
+-- only the sync state changes
 machine_consistent : (g : GroupKeys) (logs : Logs) (a : MemberState) (machine : SyncState) → machine.members
     ≡ a.machine.members
     → HeardConsistently logs machine.heard → IsConsistentMember g logs a

@@ -48,7 +48,7 @@ use Rattle.repo_holdings.proofs.CatalogueLemmas.{shapes_value}
 use Rattle.repo_holdings.proofs.GainingLemmas.{contains-value, listing_says}
 use Rattle.repo_holdings.proofs.AskedLemmas.{listing_sized}
 
--- ---- what is catalogued is stored wholly
+-- ---- what is catalogued is stored whole
 
 -- how many parts a publication of so many segments has after its record
 abbrev pub parts_counted : ℕ → ℕ

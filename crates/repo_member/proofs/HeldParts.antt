@@ -112,7 +112,7 @@ reached_opening g number time draw group inside =
 
 -- ---- changes that store nothing
 
--- claims, attempts and the machine
+-- claims, attempts and the sync state
 pub reached_with : (g : GroupKeys) (a : MemberState) (claims : List (Option Part)) (attempts : List (Part × ℕ))
     (machine : SyncState)
     → machine.members ≡ a.machine.members

@@ -29,7 +29,7 @@ AreWithinLimits processes = (number : ℕ) (p : Process) → value_of nat_cmp pr
 
 -- ---- a block
 
--- what a block comes to
+-- the result of a block
 abbrev pub member_block : MemberState → (process index : ℕ) → List ℕ → BlockState
 member_block a process index content = block_state a.insertions.processes process index content
 

@@ -59,12 +59,12 @@ pub data MemberCall : Type 0 where
 
 -- ---- what a call makes of a member: nothing, where it is refused
 
--- What is reported is learnt, and the machine hears it.
+-- The vector is learnt, and the sync state hears it.
 abbrev pub if_heard : ℕ → ℕ → MemberState → Result (List ℕ) HearRefusal → MemberState
 if_heard time draw a (Ok received) = member_hears received time draw a
 if_heard time draw a (Err refusal) = a
 
--- What is reported is learnt.
+-- The vector is learnt.
 abbrev pub if_joined : MemberState → Result (List ℕ) HearRefusal → MemberState
 if_joined a (Ok received) = member_learns received a
 if_joined a (Err refusal) = a
@@ -141,7 +141,7 @@ abbrev pub IsCheckedOutcome : GroupKeys → MemberState → List Job → List (O
 IsCheckedOutcome g a jobs parts attempts =
     IsOutcome g a jobs parts attempts × All (λ part. IfSome part IsChecked) parts
 
--- The conditions of a call, but for those that keep times and draws small. A checked part passed its checks by its
+-- The conditions of a call, except those that keep times and draws small. A checked part passed its checks by its
 -- type, and so is the name in a command a name.
 abbrev pub IsAllowedCall : GroupKeys → MemberState → MemberCall → Type 0
 IsAllowedCall g a (Publish object time draw) = IsObject object

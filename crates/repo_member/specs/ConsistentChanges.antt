@@ -86,7 +86,7 @@ abbrev pub FiresConsistent : Type 0
 FiresConsistent = (g : GroupKeys) (logs : Logs) (time draw : ℕ) (a : MemberState) → IsConsistentMember g logs a
     → IsConsistentMember g logs (member_fires time draw a)
 
--- Its machine is Steady anew.
+-- Its sync state is Steady anew.
 abbrev pub ResetsConsistent : Type 0
 ResetsConsistent = (g : GroupKeys) (logs : Logs) (time draw : ℕ) (a : MemberState) → IsConsistentMember g logs a
     → IsConsistentMember g logs (member_resets time draw a)
@@ -119,7 +119,7 @@ AcceptsConsistent = (g : GroupKeys) (logs : Logs) (f : ℕ) (t : Part) (octets :
     → claim_of (member_plan a) f ≡ Some t → published_packet g logs t ≡ Some octets → IsConsistentMember g logs a
     → IsConsistentMember g logs (member_accepts f t octets a)
 
--- What came is the packet of its part, which is wanted and which nobody claims.
+-- What was fetched is the packet of its part, which is wanted and which nobody claims.
 abbrev pub IsConsistentArrival : GroupKeys → Logs → MemberState → Part → List ℕ → Type 0
 IsConsistentArrival g logs a t octets = ArrivesConsistently g logs (member_holdings a) t octets
 

@@ -94,7 +94,7 @@ abbrev pub MembersTakeAll : Type 0
 MembersTakeAll = (xs : List Fetched) (a : MemberState)
     → member_takes xs a ≡ record a { store = with_all_fetched xs a.store; attempts = with_all_tries xs a.attempts }
 
--- What came is the packet of its part, which is wanted and which nobody claims.
+-- What was fetched is the packet of its part, which is wanted and which nobody claims.
 pub record ArrivesConsistently (g : GroupKeys) (logs : Logs) (h : HoldingsState) (t : Part) (octets : List ℕ) : Type
     0 where
   pub unclaimed : is_unclaimed (held_plan h) t ≡ true

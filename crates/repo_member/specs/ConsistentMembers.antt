@@ -19,7 +19,7 @@ use Rattle.repo_member.specs.MemberState.{MemberState, IsMemberState, IsOfGroup,
 use Rattle.repo_member.specs.Verdicts.{accept_verdict}
 use Rattle.repo_member.specs.InGroup.{in_group, AreLogs, published_packet, AreItsPackets, StoresConsistently}
 
--- The member's log is the group's of its number, it is as each in a sound group, its machine has a place for each
+-- The member's log is the group's of its number, it is as each in a sound group, its sync state has a place for each
 -- member, and each stored packet is that of its part.
 pub record IsConsistentMember (g : GroupKeys) (logs : Logs) (a : MemberState) : Type 0 where
   pub there : a.number < length logs

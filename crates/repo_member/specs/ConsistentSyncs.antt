@@ -17,7 +17,7 @@ abbrev pub KeysAreFound : Type 0
 KeysAreFound = (nodes : NodeKeys) (number : ℕ) (node : List Component) → HaveKeys nodes
     → slice_get nodes.names number ≡ Some node → key_number (encoding (key_name node)) nodes.ring ≡ Some number
 
--- A sync Interest of a member tells its number and the vector.
+-- A sync Interest of a member has its number and the vector.
 abbrev pub SyncsAreReceived : Type 0
 SyncsAreReceived = (g : GroupKeys) (logs : Logs) (sender : ℕ) (vector : List ℕ) → AreLogs g logs
     → sender < length g.members.names → IsConsistentVector logs vector

@@ -116,7 +116,7 @@ pub record IsOutcomeIn (env : Environment) (w : World) (j tries loss : ℕ) (xs 
   pub came : parts_fetched xs ≡ fetched_parts env w j tries loss
   pub tried : AreTries (attempts_for env w j tries loss) xs
 
--- What came of a fetch is taken, where the group has the same outcome.
+-- The result of a fetch is taken, where the group has the same outcome.
 abbrev pub FetchIsEvent : Type 0
 FetchIsEvent = (env : Environment) (w : World) (j tries loss : ℕ) (xs : List Fetched) (a : MemberState)
     → IsMemberOf w j a → StoresInOrder a → IsOutcomeIn env w j tries loss xs
@@ -150,7 +150,7 @@ IssueIsAnswered = (env : Environment) (w : World) (j client : ℕ) (command : Co
     → IsMemberOf w j a → IsConsistentIn g w a
     → reply_to env w (Event.Issue j client command) ≡ Reply.Commanded (answer_to command a)
 
--- A block comes to the same in both.
+-- A block has the same result in both.
 abbrev pub BlockStatesAlike : Type 0
 BlockStatesAlike = (w : World) (j process index : ℕ) (content : List ℕ) (a : MemberState) → IsMemberOf w j a
     → block_at w j process index content ≡ member_block a process index content
@@ -165,12 +165,12 @@ BlockIsEvent = (env : Environment) (w : World) (j process index : ℕ) (content 
 
 -- ---- a settle
 
--- What vectors make of a member, where its machine isn't informed of them.
+-- What vectors make of a member, where its sync state isn't informed of them.
 abbrev pub learns_all : List (List ℕ) → MemberState → MemberState
 learns_all [] a = a
 learns_all (received ∷ others) a = learns_all others (member_learns received a)
 
--- It comes to know the join of them all, and nothing else of it changes.
+-- It learns the join of them all, and nothing else of it changes.
 abbrev pub LearnsAtOnce : Type 0
 LearnsAtOnce = (vectors : List (List ℕ)) (a : MemberState)
     → learns_all vectors a ≡ record a { known = join_all (a.known ∷ vectors) }
@@ -179,7 +179,7 @@ LearnsAtOnce = (vectors : List (List ℕ)) (a : MemberState)
 abbrev pub AreAllVectors : World → MemberState → List (List ℕ) → Type 0
 AreAllVectors w a vectors = HaveSameVectors (a.known ∷ vectors) (map (λ m. m.known) w.members)
 
--- So it comes to know what the group settles on.
+-- So it learns what the group settles on.
 abbrev pub LearnsWhatAllKnow : Type 0
 LearnsWhatAllKnow = (w : World) (a : MemberState) (vectors : List (List ℕ)) → AreAllVectors w a vectors
     → (learns_all vectors a).known ≡ settled_vector w
@@ -191,21 +191,21 @@ pub record IsSettling (w : World) (j : ℕ) (a : MemberState) (vectors : List (L
   pub came : (t : Part) → contains part_cmp (parts_fetched xs) t ≡ contains part_cmp (new_parts w (member w j)) t
   pub tried : AreTries (λ t. 0) xs
 
--- In a settle the member learns all vectors and takes what came of others.
+-- In a settle the member learns all vectors and takes what it fetched from others.
 abbrev pub GatheringIsEvent : Type 0
 GatheringIsEvent = (env : Environment) (w : World) (j : ℕ) (vectors : List (List ℕ)) (xs : List Fetched)
     (a : MemberState)
     → IsMemberOf w j a → StoresInOrder a → IsSettling w j a vectors xs
     → member (after_gathering env w) j ≡ in_group (member_takes xs (learns_all vectors (member_ends_claims a)))
 
--- After a settle the member's machine is Steady anew, too.
+-- After a settle the member's sync state is Steady anew, too.
 abbrev pub SettleIsEvent : Type 0
 SettleIsEvent = (env : Environment) (w : World) (j : ℕ) (vectors : List (List ℕ)) (xs : List Fetched) (a : MemberState)
     → IsMemberOf w j a → StoresInOrder a → IsSettling w j a vectors xs
     → member (after_event env w Event.Settle) j
     ≡ in_group (member_resets w.time (drawn env w j) (member_takes xs (learns_all vectors (member_ends_claims a))))
 
--- ---- what is told
+-- ---- what is reported
 
 -- The parts that a member can claim or fetch, and its catalogue.
 abbrev pub OpenPartsAlike : Type 0

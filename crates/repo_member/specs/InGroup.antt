@@ -73,7 +73,7 @@ abbrev pub HearsAlike : Type 0
 HearsAlike = (received : List ℕ) (time draw : ℕ) (a : MemberState)
     → in_group (member_hears received time draw a) ≡ group.learns draw time received (in_group a)
 
--- A vector that the machine isn't informed of, as in a settle.
+-- A vector that the sync state isn't informed of, as in a settle.
 abbrev pub LearnsAlike : Type 0
 LearnsAlike = (received : List ℕ) (a : MemberState)
     → in_group (member_learns received a) ≡ record (in_group a) { known = join (in_group a).known received }
@@ -124,7 +124,7 @@ TakesAlike = (tries : Part → ℕ) (xs : List Fetched) (a : MemberState) → St
 abbrev pub EndsClaimsAlike : Type 0
 EndsClaimsAlike = (a : MemberState) → in_group (member_ends_claims a) ≡ member_without_claims (in_group a)
 
--- Its machine is Steady again.
+-- Its sync state is Steady again.
 abbrev pub ResetsAlike : Type 0
 ResetsAlike = (time draw : ℕ) (a : MemberState)
     → in_group (member_resets time draw a) ≡ group.resets draw time (in_group a)

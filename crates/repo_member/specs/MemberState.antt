@@ -64,7 +64,7 @@ member_holdings a = record {
   spare = 0;
 }
 
--- its fetch plan: it holds what it stores, and the stored records tell which parts there are
+-- its fetch plan: it holds what it stores, and the stored records say which parts there are
 abbrev pub member_plan : MemberState → PlanState
 member_plan a = held_plan (member_holdings a)
 
@@ -127,7 +127,7 @@ logged g a t =
 abbrev pub member_learns : List ℕ → MemberState → MemberState
 member_learns received a = record a { known = join a.known received }
 
--- the machine hears the vector while the member still knows the one before
+-- the sync state hears the vector while the member still knows the one before
 abbrev pub member_hears : List ℕ → ℕ → ℕ → MemberState → MemberState
 member_hears received time draw a =
     record (member_learns received a) { machine = hears_joined time received a.known draw a.machine a.machine.heard }
@@ -167,7 +167,7 @@ member_takes (x ∷ xs) a = member_takes xs (record a {
 abbrev pub member_ends_claims : MemberState → MemberState
 member_ends_claims a = record a { claims = no_claims }
 
--- The member's machine is Steady from this time on.
+-- The member's sync state is Steady from this time on.
 abbrev pub member_resets : ℕ → ℕ → MemberState → MemberState
 member_resets time draw a = record a { machine = steady_joined time draw a.machine }
 
@@ -175,6 +175,6 @@ member_resets time draw a = record a { machine = steady_joined time draw a.machi
 abbrev pub member_clears : MemberState → MemberState
 member_clears a = record a { insertions = record a.insertions { processes = [] } }
 
--- The member starts again: claims and insertion processes end, and its machine is Steady.
+-- The member starts again: claims and insertion processes end, and its sync state is Steady.
 abbrev pub member_restarts : ℕ → ℕ → MemberState → MemberState
 member_restarts time draw a = member_resets time draw (member_clears (member_ends_claims a))

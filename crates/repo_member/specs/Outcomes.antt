@@ -1,4 +1,4 @@
--- What came of a fetch, as who planned it takes it: a member, or another that holds parts in its group.
+-- The result of a fetch, as who planned it takes it: a member, or another that holds parts in its group.
 use Rattle.std.specs.Prelude.{◌≡◌, ℕ, ◌+◌, ◌<◌, true, List, [], ◌∷◌, map, take, length, Option, option_map}
 use Rattle.std.specs.Prelude.{unwrap_or, IfSome}
 use Rattle.std.specs.List.{All, filter}
@@ -19,7 +19,7 @@ use Rattle.repo_holdings.specs.Wanting.{want_at, job_at}
 abbrev pub job_for : GroupKeys → MemberState → Part → Job
 job_for g a t = job_at g.members.names g.name (member_holdings a) t
 
--- the jobs, with what came for each and how often it was tried
+-- the jobs, with what was received for each and how often it was tried
 abbrev pub outcome_of : List Job → List (Option CheckedPart) → List ℕ → List Fetched
 outcome_of (job ∷ jobs) (part ∷ parts) (n ∷ ns) =
     record { part = job.want.part; packet = option_map (λ c. c.octets) part; attempts = n } ∷ outcome_of jobs parts ns
@@ -36,7 +36,7 @@ pub record IsCheckedFor (g : GroupKeys) (want : WantedPart) (c : CheckedPart) : 
   pub key : c.key ≡ (publisher_key g.members.ring want).key
 
 -- a job of who holds this: its part is wanted and unclaimed, its want is that of the part by the names of the group,
--- what came was checked for it, and it was not tried too often
+-- what was received was checked for it, and it was not tried too often
 pub record IsFetchedOf (g : GroupKeys) (h : HoldingsState) (job : Job) (part : Option CheckedPart) (n : ℕ) : Type 0
   where
     pub unclaimed : is_unclaimed (held_plan h) job.want.part ≡ true
@@ -60,7 +60,7 @@ pub record IsOutcomeOf (g : GroupKeys) (h : HoldingsState) (jobs : List Job) (pa
   pub apart : PartsDiffer (map (λ (job : Job). job.want.part) jobs)
   pub each : AreFetchedOf g h jobs parts attempts
 
--- a job of a member, with what came of it
+-- a job of a member, with its result
 abbrev pub IsFetched : GroupKeys → MemberState → Job → Option CheckedPart → ℕ → Type 0
 IsFetched g a job part n = IsFetchedOf g (member_holdings a) job part n
 
@@ -100,7 +100,7 @@ ArePlannedJobs g a jobs = AreJobsOf g (member_holdings a) jobs
 abbrev pub jobs_after : GroupKeys → MemberState → Option Part → ℕ → List Job
 jobs_after g a after most = jobs_of g (member_holdings a) after most
 
--- what came of jobs was checked for them, and none was tried too often
+-- the results of jobs were checked for them, and none was tried too often
 abbrev pub WereTried : GroupKeys → List Job → List (Option CheckedPart) → List ℕ → Type 0
 WereTried g [] [] [] = Unit {0}
 WereTried g (job ∷ jobs) (part ∷ parts) (n ∷ ns) =
@@ -118,7 +118,7 @@ RisingJobsArePlanned = (g : GroupKeys) (h : HoldingsState) (ts : List Part) → 
     → length g.members.names ≡ length h.known → Rises part_cmp ts
     → All (λ t. is_unclaimed (held_plan h) t ≡ true) ts → AreJobsOf g h (map (job_at g.members.names g.name h) ts)
 
--- whatever comes of planned jobs can be taken
+-- any result of planned jobs can be taken
 abbrev pub HolderJobsAreOutcomes : Type 0
 HolderJobsAreOutcomes = (g : GroupKeys) (h : HoldingsState) (jobs : List Job) (parts : List (Option CheckedPart))
     (attempts : List ℕ) → AreJobsOf g h jobs → WereTried g jobs parts attempts → IsOutcomeOf g h jobs parts attempts
@@ -128,7 +128,7 @@ abbrev pub JobsArePlanned : Type 0
 JobsArePlanned = (g : GroupKeys) (a : MemberState) (after : Option Part) (most : ℕ) → HaveKeys g.members → IsOfGroup g a
     → ArePlannedJobs g a (jobs_after g a after most)
 
--- and whatever comes of them it can take
+-- and any result of them it can take
 abbrev pub PlannedJobsAreOutcomes : Type 0
 PlannedJobsAreOutcomes = (g : GroupKeys) (a : MemberState) (jobs : List Job) (parts : List (Option CheckedPart))
     (attempts : List ℕ) → ArePlannedJobs g a jobs → WereTried g jobs parts attempts → IsOutcome g a jobs parts attempts

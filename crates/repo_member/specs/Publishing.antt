@@ -11,7 +11,7 @@ use Rattle.repo_member.specs.Groups.{GroupKeys, publisher_at}
 use Rattle.repo_member.specs.MemberState.{MemberState, publication_limit, next_seq, member_publishes}
 use Rattle.repo_member.specs.Verdicts.{sync_of}
 
--- all that a publication makes: its packets, of which the first is a record that tells this, and the sync Interest
+-- all that a publication makes: its packets, of which the first is a record that says this, and the sync Interest
 pub record IsPrepared (g : GroupKeys) (a : MemberState) (post : Post) (received : RecordSummary) (made : List (List ℕ))
     (sync : List ℕ)
     : Type 0 where

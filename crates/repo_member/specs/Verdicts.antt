@@ -17,7 +17,7 @@ use Rattle.repo_member.specs.declared.refusals.AcceptRefusal.TheVariants.{Fetche
 use Rattle.repo_member.specs.Groups.{GroupKeys, node_at, member_key}
 use Rattle.repo_member.specs.MemberState.{MemberState, member_plan, want_of}
 
--- the sync Interest by which a member tells a vector
+-- the sync Interest of a member with a vector
 abbrev pub sync_of : GroupKeys → ℕ → List ℕ → List ℕ
 sync_of g number vector =
     sync_interest g.name vector g.members.names (key_name (node_at g number)) (member_key g number)
@@ -34,11 +34,11 @@ abbrev pub received_verdict : MemberState → Result (ℕ × List ℕ) SyncRefus
 received_verdict a (Err refusal) = Err (Sync refusal)
 received_verdict a (Ok received) = vector_verdict a received.1
 
--- who signed the sync Interest of the group that octets are, and the vector that it tells; or why they are refused
+-- who signed the sync Interest of the group that octets are, and its vector; or why they are refused
 abbrev pub group_verdict : GroupKeys → List ℕ → Result (ℕ × List ℕ) SyncRefusal
 group_verdict g octets = sync_verdict g.name g.members.names g.members.ring octets
 
--- the vector that octets tell the member, or why they are refused
+-- the vector that the member learns from octets, or why they are refused
 abbrev pub hear_verdict : GroupKeys → MemberState → List ℕ → Result (List ℕ) HearRefusal
 hear_verdict g a octets = received_verdict a (group_verdict g octets)
 

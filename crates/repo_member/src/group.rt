@@ -156,7 +156,7 @@ impl Group {
         &self.name
     }
 
-    /// The number of the member that signed a sync Interest of the group, and the numbers that it tells. It takes no
+    /// The number of the member that signed a sync Interest of the group, and its numbers. It takes no
     /// memory.
     pub(crate) fn check_numbers(&self, octets: &[u8]) -> Result<(u32, VectorNumbers), SyncRefusal>
         ensures verdict { MatchResult result

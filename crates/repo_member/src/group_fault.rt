@@ -17,7 +17,7 @@ pub enum GroupFault {
 }
 
 impl GroupFault {
-    /// Running out of memory, which is all that a new name can meet where there is room for it.
+    /// Out of memory: the only fault that a new name can have, where there is a number for it.
     pub fn only_memory(self) -> AllocError
         requires { self ≡ GroupFault.NoMemory }
     {

@@ -266,7 +266,7 @@ pub fn fetching_and_obeying_keep_members_consistent()
     ensures takes { TakesConsistent }
 {}
 
-/// The key of each node is found under its number. A sync Interest of a member tells its number and the vector, and
+/// The key of each node is found under its number. A sync Interest of a member has its number and the vector, and
 /// each member takes it.
 pub fn syncs_of_members_are_taken()
     ensures keys { KeysAreFound }

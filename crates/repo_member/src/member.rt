@@ -34,7 +34,7 @@ use svs_vector::Vector;
 pub use syncing::Fire;
 
 /// One member of a group: its publications, the numbers that it knows, the packets that it holds, the claims of its
-/// sixteen fetchers, its suppression machine, its catalogue and its insertion processes.
+/// sixteen fetchers, its sync state, its catalogue and its insertion processes.
 ///
 /// A call that is refused has changed nothing, running out of memory included.
 pub struct Member {
@@ -98,7 +98,7 @@ impl Member {
         })
     }
 
-    /// The objects that the member published or wholly fetched, and that it does not know to be withdrawn.
+    /// The objects that the member published or fetched whole, and that it does not know to be withdrawn.
     pub fn catalogue(&self) -> &Catalogue
         ensures { result.now.entries ≡ member_catalogue self.now.store }
     {
@@ -143,14 +143,14 @@ impl Member {
         u32::from(self.vector.get(self.number))
     }
 
-    /// The octets of the packet of a part that the member holds. It takes no memory.
+    /// The octets of the packet of a part that the member holds. It allocates nothing.
     pub fn packet(&self, part: Part) -> Option<&[u8]>
         ensures { option_map (λ octets. octets.now) result ≡ value_of part_cmp self.now.store part }
     {
         self.held.packet(part)
     }
 
-    /// The packet of a part that the member holds, which may be shared. It takes no memory.
+    /// The packet of a part that the member holds, which may be shared. It allocates nothing.
     pub fn stored(&self, part: Part) -> Option<&Packet>
         ensures { option_map (λ packet. packet.now) result ≡ value_of part_cmp self.now.store part }
     {
@@ -158,14 +158,14 @@ impl Member {
     }
 
     /// Puts the packets that came since in order of their names, so that an Interest is answered fast. The member stays
-    /// as it is. It takes no memory.
+    /// as it is. It allocates nothing.
     pub fn order_names(&mut self)
         ensures { self.new ≡ self.old }
     {
         self.held.order_names();
     }
 
-    /// What the member answers to an Interest: the packet of the least part that satisfies it. It takes no memory.
+    /// What the member answers to an Interest: the packet of the least part that satisfies it. It allocates nothing.
     pub fn serve(&self, interest: &[u8]) -> Result<Option<&[u8]>, PacketFault>
         ensures { MatchResult result
             (λ found. served interest.now self.now.store ≡ Ok (option_map (λ octets. octets.now) found))
@@ -174,14 +174,14 @@ impl Member {
         self.held.serve(interest)
     }
 
-    /// Every fetcher's claim ends. It takes no memory.
+    /// Every fetcher's claim ends. It allocates nothing.
     pub fn end_claims(&mut self)
         ensures { self.new ≡ member_ends_claims self.old }
     {
         self.held.end_claims();
     }
 
-    /// The machine starts again, with one draw. It takes no memory.
+    /// The sync state starts again, with one draw. It allocates nothing.
     pub fn reset(&mut self, now: u64, draw: u32)
         requires early { now < 2 ^ 62 }
         requires few { self.old.machine.draws < 2 ^ 62 }
@@ -190,8 +190,8 @@ impl Member {
         self.machine.reset(now, draw);
     }
 
-    /// The member starts again: claims and insertion processes end, and the machine is reset. What it published, knows,
-    /// holds and hid stays, and so do the attempts and the numbers of processes. It takes no memory.
+    /// The member starts again: claims and insertions end, and the sync state is reset. What it published, knows,
+    /// holds and hid stays, and so do the attempts and the numbers of processes. It allocates nothing.
     pub fn restart(&mut self, now: u64, draw: u32)
         requires early { now < 2 ^ 62 }
         requires few { self.old.machine.draws < 2 ^ 62 }

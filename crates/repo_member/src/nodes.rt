@@ -103,14 +103,14 @@ fn add_pair(ring: &mut KeyRing, name: &[u8], key: &[u8]) -> Result<(), AllocErro
     }
 }
 
-// Adds a name that is not there, where there is room for it.
+// Adds a name that is not there, where there is capacity for it.
 fn add_name(names: &mut Roster, node: &Name) -> Result<(), AllocError>
     ensures ok { OnOk result (names.new ≡ names.old ++ node.now ∷ []) }
     ensures err { OnErr result (names.new ≡ names.old) }
 {
     match names.add(node) {
         Ok(_) => Ok(()),
-        // The name is not there and there is room, so only memory was wanted.
+        // The name is not there and there is a number for it, so the fault can only be out of memory.
         Err(_) => Err(AllocError),
     }
 }

@@ -74,7 +74,7 @@ pub(crate) fn packet_in(
     }
 }
 
-// Puts one more publication after the others, where room was made. What it withdraws is marked.
+// Puts one more publication after the others, where capacity was reserved. What it withdraws is marked.
 pub(crate) fn push(log: &mut Vec<Post>, post: Post)
     requires room { length log.old.items < vec_capacity log.old }
     requires log { IsKeptLog log.old.items }

@@ -1,4 +1,4 @@
--- What a mirror lists is what its pattern is for.
+-- What a mirror lists is what its pattern accepts.
 use Rattle.std.proofs.Common.{◌≡◌, inl, inr, ℕ, Bool, true, false, cond, List, [], ◌∷◌, map, Option, Some, None, refl}
 use Rattle.std.proofs.Common.{sym, ap, ◌∙◌, option_map}
 use Rattle.std.specs.Prelude.{◌==◌}
@@ -47,7 +47,7 @@ from_records (e ∷ es) x i = go (λ j. inr (from_records es x j)) (e.0.part == 
   go later true p (inr j) = later j
   go later false p j = later j
 
--- the record of an object that is kept is of one that the pattern is for
+-- the record of an object that is kept is of one that the pattern accepts
 pub record_accepted : (pattern : Pattern) (pair : Pair) (octets : List ℕ) (l : Listed) → stated_in octets
     ≡ Some (Lists l)
     → is_packet_for pattern (part_of pair 0) octets ≡ true → accepts pattern pair.0 l.name ≡ true

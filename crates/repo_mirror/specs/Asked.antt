@@ -12,7 +12,7 @@ abbrev pub asked_numbers : Option ℕ → ℕ → List ℕ → List ℕ
 asked_numbers asked p [] = []
 asked_numbers asked p (n ∷ ns) = (if is_publisher asked p then n else 0) ∷ asked_numbers asked (p + 1) ns
 
--- What was published by that publisher is kept: an object that the pattern is for, and each withdrawal.
+-- What was published by that publisher is kept: an object that the pattern accepts, and each withdrawal.
 abbrev pub is_post_for : Pattern → ℕ → Post → Bool
 is_post_for pattern p (Offers object) = accepts pattern p object.name
 is_post_for pattern p (Withdraws seq) = true

@@ -77,13 +77,13 @@ pub record FetchForMirror (g : GroupKeys) (logs : Logs) (m : MirrorState) (x : F
   pub part_wanted : is_wanted (fetch_plan m) x.part ≡ true
   pub consistent : IsConsistentFetch g logs x.part x.packet
 
--- Then just the parts that came are held too: the records of objects that the pattern isn't for by passing them over.
+-- Then just the parts that came are held too: records of objects that the pattern doesn't accept by passing them over.
 pub record TakesConsistently (g : GroupKeys) (logs : Logs) (xs : List Fetched) (m : MirrorState) : Type 0 where
   pub stays : IsConsistentMirror g logs (mirror_takes xs m)
   pub held : (u : Part) → mirror_holds (mirror_in_group (mirror_takes xs m)) u
       ≡ (contains part_cmp (parts_fetched xs) u || mirror_holds (mirror_in_group m) u)
 
--- A consistent mirror that takes what came stays consistent, and holds the parts that came too.
+-- A consistent mirror that takes what was fetched stays consistent, and holds the parts that were fetched too.
 abbrev pub MirrorsTakeConsistent : Type 0
 MirrorsTakeConsistent = (g : GroupKeys) (logs : Logs) (m : MirrorState) (xs : List Fetched) → AreLogs g logs
     → IsConsistentMirror g logs m → All (FetchForMirror g logs m) xs → TakesConsistently g logs xs m

@@ -15,7 +15,7 @@ use Rattle.repo_mirror.specs.MirrorState.{MirrorState, initial_mirror}
 use Rattle.repo_mirror.specs.Passing.{mirror_takes}
 use Rattle.repo_mirror.specs.MirrorOutcomes.{IsMirrorOutcome}
 
--- A call that may change a mirror, with what it is given: a vector, or what came of a fetch. One that is out of memory
+-- A call that may change a mirror, with what it is given: a vector, or the result of a fetch. One that is out of memory
 -- changes nothing, so it is in no list.
 pub data MirrorCall : Type 0 where
   Learn : List ℕ → MirrorCall
@@ -31,7 +31,7 @@ abbrev pub after_mirror_calls : List MirrorCall → MirrorState → MirrorState
 after_mirror_calls [] m = m
 after_mirror_calls (call ∷ calls) m = after_mirror_calls calls (after_mirror_call call m)
 
--- The conditions of a call, but for that which keeps lists of jobs short. A checked part passed its checks by its type.
+-- The conditions of a call, except that which keeps lists of jobs short. A checked part passed its checks by its type.
 abbrev pub IsAllowedMirrorCall : MirrorState → MirrorCall → Type 0
 IsAllowedMirrorCall m (Learn received) = length received ≡ length m.known
 IsAllowedMirrorCall m (TakeOutcome jobs parts attempts) =
@@ -51,7 +51,7 @@ InEveryMirror P = (pattern : Pattern) (members : ℕ) (calls : List MirrorCall) 
 
 -- ---- what holds of every mirror
 
--- It lists only objects that its pattern is for.
+-- It lists only objects that its pattern accepts.
 abbrev pub ListsAccepted : MirrorState → Type 0
 ListsAccepted m = All (λ e. is_entry_accepted m.pattern e ≡ true) (member_catalogue m.store)
 

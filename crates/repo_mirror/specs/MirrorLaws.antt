@@ -51,7 +51,7 @@ SettledHoldThose = (pattern : Pattern) (logs : Logs) (members : List Member) (m 
     → (t : Part) → contains part_cmp any t ≡ true
     → mirror_holds (mirror_gains_all pattern logs came m) t ≡ true
 
--- A mirror that is gathering parts in a settle: it knows and holds what it did, and what came since is held by someone.
+-- A mirror that fetches parts in a settle: it knows and holds what it did, and what it got since is held by someone.
 pub record IsGathering (pattern : Pattern) (logs : Logs) (members : List Member) (m new : Mirror) : Type 0 where
   pub known : new.known ≡ m.known
   pub sound : IsSoundMirror pattern logs new

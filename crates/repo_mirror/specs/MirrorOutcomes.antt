@@ -1,4 +1,4 @@
--- What came of a fetch that a mirror planned.
+-- The result of a fetch that a mirror planned.
 use Rattle.std.specs.Prelude.{◌≡◌, ℕ, ◌+◌, ◌<◌, Bool, true, List, [], ◌∷◌, map, take, Option, IfSome}
 use Rattle.std.specs.List.{All, filter}
 use Rattle.ndn_name.specs.Names.{Component}
@@ -29,7 +29,7 @@ planned_jobs_that test publishers group m after most =
     (take most (filter test (filter (is_after after) (wanted (fetch_plan m)))))
 
 -- A job of the mirror: its part is wanted, its want is that of the part by the names of publishers and their group,
--- what came was checked for it, and it was not tried too often. Under which key it was checked isn't asked.
+-- what was received was checked for it, and it was not tried too often. Under which key it was checked isn't asked.
 pub record IsFetchedFor (m : MirrorState) (job : Job) (part : Option CheckedPart) (n : ℕ) : Type 0 where
   pub publishers : List (List Component)
   pub group : List Component
@@ -50,7 +50,7 @@ pub record IsMirrorOutcome (m : MirrorState) (jobs : List Job) (parts : List (Op
   pub apart : PartsDiffer (map (λ (job : Job). job.want.part) jobs)
   pub each : AreFetchedFor m jobs parts attempts
 
--- What came of jobs was checked for them, and none was tried too often.
+-- The results of jobs were checked for them, and none was tried too often.
 abbrev pub WereTriedFor : List Job → List (Option CheckedPart) → List ℕ → Type 0
 WereTriedFor [] [] [] = Unit {0}
 WereTriedFor (job ∷ jobs) (part ∷ parts) (n ∷ ns) =

@@ -13,7 +13,7 @@ pub record MirrorState : Type 0 where
   pub pattern : Pattern
   pub known : List ℕ  -- its vector: one number a member
   pub store : List Packet  -- the packet of each part that it keeps, in order of the parts
-  pub passed : List Pair  -- the publications whose record came and whose object its pattern isn't for, in order
+  pub passed : List Pair  -- the publications whose record came and whose object its pattern doesn't accept, in order
   pub attempts : List (Part × ℕ)  -- of the parts that it didn't pass over, in order, without 0
 
 -- A mirror of a group of so many members, which knows of nothing.

@@ -19,8 +19,8 @@ use Rattle.repo_mirror.specs.Asked.{asked_numbers, is_for}
 -- What a mirror has, besides its pattern.
 pub record Mirror : Type 0 where
   pub known : List ℕ  -- its vector: one number a member
-  pub kept : List Part  -- the parts that it keeps, in order: of objects that its pattern is for, and withdrawals
-  pub passed : List Pair  -- the publications whose record came and whose object its pattern isn't for, in order
+  pub kept : List Part  -- the parts that it keeps, in order: of objects that its pattern accepts, and withdrawals
+  pub passed : List Pair  -- the publications whose record came and whose object its pattern doesn't accept, in order
   pub attempts : List (Part × ℕ)  -- in order, without 0
 
 -- It holds what it keeps, and the records that it passed over.
@@ -84,7 +84,7 @@ module _ (pattern : Pattern) where
     pub kept : (t : Part) → contains part_cmp m.kept t ≡ true → IsKeptSoundly logs m t
     pub passed : (pair : Pair) → contains pair_cmp m.passed pair ≡ true → IsPassedSoundly logs m pair
 
-  -- ---- what it makes of a part that comes: the record of an object that the pattern isn't for is passed over
+  -- ---- a part that it receives: the record of an object that the pattern doesn't accept is passed over
 
   -- The mirror after a part came.
   abbrev pub mirror_gains : Logs → Part → Mirror → Mirror
@@ -111,7 +111,7 @@ module _ (pattern : Pattern) where
   mirror_knows_withdrawn publications m pair =
       list_any (λ q. withdraws pair q && mirror_holds m (part_of (pair_in q) 0)) publications
 
-  -- The publication is an object that the pattern is for.
+  -- The publication is an object that the pattern accepts.
   abbrev pub is_object_accepted : Publication → Bool
   is_object_accepted p = is_object p && accepts pattern p.publisher (object_in p).name
 
@@ -125,7 +125,7 @@ module _ (pattern : Pattern) where
   abbrev pub mirror_catalogue : Logs → Mirror → List Entry
   mirror_catalogue logs m = map published_entry (filter (is_listed_by_mirror (published logs) m) (published logs))
 
-  -- The pattern is for the entry's object.
+  -- The pattern accepts the entry's object.
   abbrev pub is_entry_accepted : Entry → Bool
   is_entry_accepted e = accepts pattern e.publisher e.name
 

@@ -19,7 +19,7 @@ pub record PassedFor (t : Part) (octets : List ℕ) : Type 0 where
 abbrev pub IsCheckedFetch : Fetched → Type 0
 IsCheckedFetch x = IfSome x.packet (PassedFor x.part)
 
--- A packet passed every check for a want of its part, and isn't the record of an object that the pattern isn't for.
+-- A packet passed every check for a want of its part, and is no record of an object that the pattern doesn't accept.
 pub record IsPacketFor (pattern : Pattern) (packet : Packet) : Type 0 where
   pub checks : PassedFor packet.0 packet.1
   pub kept : is_packet_for pattern packet.0 packet.1 ≡ true

@@ -1,4 +1,4 @@
--- What a mirror keeps of what came, and what it passes over.
+-- What a mirror keeps of what was fetched, and what it passes over.
 use Rattle.std.specs.Prelude.{◌≡◌, ℕ, Bool, true, false, not, List, [], map, filter, Option, Some, None, unwrap_or}
 use Rattle.std.specs.Prelude.{option_map}
 use Rattle.std.specs.List.{All}
@@ -16,17 +16,17 @@ use Rattle.repo_watch.specs.declared.pattern.Pattern.{Pattern}
 use Rattle.repo_watch.specs.Patterns.{accepts}
 use Rattle.repo_mirror.specs.MirrorState.{MirrorState}
 
--- What a packet of that publisher tells is kept, unless it is the record of an object that the pattern isn't for.
+-- A packet of that publisher is kept, unless it is the record of an object that the pattern doesn't accept.
 abbrev pub is_summary_for : Pattern → ℕ → Option RecordSummary → Bool
 is_summary_for pattern p None = true
 is_summary_for pattern p (Some (Object shape name)) = accepts pattern p name
 is_summary_for pattern p (Some (Withdrawal seq)) = true
 
--- So is a packet that came for a part, by what it tells.
+-- So is a packet that was fetched for a part, by what it says.
 abbrev pub is_packet_for : Pattern → Part → List ℕ → Bool
 is_packet_for pattern t octets = is_summary_for pattern t.publisher (summary_in t octets)
 
--- What came of a part is kept: such a packet, or none.
+-- The result of a part is kept: such a packet, or none.
 abbrev pub is_fetch_for : Pattern → Fetched → Bool
 is_fetch_for pattern x = unwrap_or (option_map (is_packet_for pattern x.part) x.packet) true
 

@@ -2,7 +2,7 @@ ghost use Rattle.repo_mirror.specs.MirrorLaws.{MirrorsWantThose, MirrorsGain, Mi
 ghost use Rattle.repo_mirror.specs.MirrorLaws.{MirrorsLearnAll, SettledHoldThose, GatheringGainsThose};
 
 /// The plan of a mirror wants just the parts that a mirror is to want: the records of the known publications of the
-/// publishers that it asks, and the parts of the objects that its pattern is for whose digests it holds, that aren't
+/// publishers that it asks, and the parts of the objects that its pattern accepts whose digests it holds, that aren't
 /// held.
 pub fn mirrors_want_those()
     ensures { MirrorsWantThose }
@@ -13,7 +13,7 @@ pub fn mirrors_gain_what_comes()
     ensures { MirrorsGain }
 {}
 
-/// What a mirror lists are the objects that its pattern is for of which it holds every part, and no withdrawal.
+/// What a mirror lists are the objects that its pattern accepts of which it holds every part, and no withdrawal.
 pub fn mirrors_list_what_is_accepted()
     ensures { MirrorsList }
 {}
@@ -36,7 +36,7 @@ pub fn mirrors_learn_all()
 {}
 
 /// Where no member hides anything, and the mirror knows all publications and wants nothing that someone holds, it lists
-/// all objects of the join of all publications that its pattern is for.
+/// all objects of the join of all publications that its pattern accepts.
 pub fn a_settled_mirror_joins()
     ensures { MirrorsJoin }
 {}

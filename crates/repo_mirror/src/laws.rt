@@ -10,7 +10,7 @@ ghost use Rattle.repo_mirror.specs.MirrorCalls.{InEveryMirror, ListsAccepted, Pa
 ghost use Rattle.repo_mirror.specs.MirrorCalls.{KnowsTheJoin};
 
 /// In every mirror that calls reach, it wants just the parts that a mirror with its pattern is to want, lists only
-/// objects that its pattern is for, and stores only packets that passed their checks and aren't records of other
+/// objects that its pattern accepts, and stores only packets that passed their checks and aren't records of other
 /// objects; and it stores nothing of a publication that it passed over.
 pub fn calls_keep_mirrors_sound()
     ensures wants { InEveryMirror WantsThose }
@@ -27,7 +27,7 @@ pub fn calls_take_nothing_from_mirrors()
     ensures known { KnowsTheJoin }
 {}
 
-/// Whatever comes of jobs that a mirror planned, or of those of any parts that it wants, in order, if it was checked
+/// Any result of jobs that a mirror planned, or of those of any parts that it wants, in order, if it was checked
 /// for them, is an outcome that the mirror takes.
 pub fn planned_jobs_can_be_taken()
     ensures planned { PlannedJobsAreOutcomes }

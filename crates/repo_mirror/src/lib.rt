@@ -1,5 +1,5 @@
-//! A mirror of a group: it publishes nothing, and fetches only what its pattern is for. It needs every record of a
-//! publisher that it asks, since only the record tells the name.
+//! A mirror of a group: it publishes nothing, and fetches only what its pattern accepts. It needs every record of a
+//! publisher that it asks, since only the record has the name.
 //!
 //! What is promised of it: `docs/promises/repo_mirror.md`.
 #![tactic(auto)]

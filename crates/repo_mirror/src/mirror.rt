@@ -25,7 +25,7 @@ use std::alloc::{AllocError, Global};
 use std::marker::Model;
 use svs_vector::{Roster, Vector};
 
-/// A mirror: a pattern, the numbers that it knows of, and what it holds of what its pattern is for.
+/// A mirror: a pattern, the numbers that it knows of, and what it holds of what its pattern accepts.
 ///
 /// A record whose object its pattern isn't for is passed over: its packet isn't kept, and no part of that publication
 /// is wanted any more. The records of withdrawals are kept, since they take objects out of the catalogue.
@@ -77,7 +77,7 @@ impl Mirror {
         })
     }
 
-    /// What the vector tells is known from now on. It takes no memory.
+    /// The numbers of the vector are known from now on. It allocates nothing.
     pub fn learn(&mut self, received: &Vector)
         requires { length received.now ≡ length self.old.known }
         ensures { self.new ≡ record self.old { known = join self.old.known received.now } }
@@ -134,7 +134,7 @@ impl Mirror {
         &self.vector
     }
 
-    /// The objects that the mirror's pattern is for of which it holds every part, and no withdrawal.
+    /// The objects that the mirror's pattern accepts of which it holds every part, and no withdrawal.
     pub fn catalogue(&self) -> &Catalogue
         ensures whole { result.now.entries ≡ member_catalogue self.now.store }
         ensures accepted { All (λ e. is_entry_accepted self.now.pattern e ≡ true) result.now.entries }

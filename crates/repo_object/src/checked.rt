@@ -46,7 +46,7 @@ impl<'p> Model for Checked<'p> {
 }
 
 /// The octets as a packet that passes for the want under the key that the ring has at its publisher's
-/// number, or the first reason why they don't. It takes no memory.
+/// number, or the first reason why they don't. It allocates nothing.
 pub fn check_part<'p>(
     want: &'p Want,
     octets: &'p [u8],
@@ -118,7 +118,7 @@ impl<'p> Checked<'p> {
         }
     }
 
-    /// The packet's digest, where the want tells it: the check compared it.
+    /// The packet's digest, where the want has it: the check compared it.
     pub fn digest(&self) -> Option<&'p [u8; 32]>
         ensures same { option_map (λ digest. digest.now) result ≡ self.now.want.digest }
         ensures digest { IfSome result (λ digest. digest.now ≡ sha256 self.now.octets) }

@@ -20,7 +20,7 @@ use std::alloc::{AllocError, Global};
 use std::marker::Model;
 
 /// What the packet of a part must be, as a want says it, in names and digests that are lent. It has no Interest, so it
-/// takes no memory.
+/// allocates nothing.
 #[derive(Drop)]
 pub struct Expected<'w> {
     part: Part,
@@ -156,7 +156,7 @@ impl<'w> Expected<'w> {
     }
 
     /// Whether the octets are the packet that is expected, under the key that the ring has at its publisher's number,
-    /// or the first reason why not. It takes no memory.
+    /// or the first reason why not. It allocates nothing.
     pub fn check(&self, octets: &[u8], ring: &KeyRing) -> Result<(), PartRefusal>
         requires { self.now.part.publisher < length ring.now }
         ensures { MatchResult result

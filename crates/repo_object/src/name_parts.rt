@@ -32,7 +32,7 @@ impl NameParts<'_> {
         self.first.len() + self.second.len() + numbers
     }
 
-    // Whether these are the name's octets. It takes no memory.
+    // Whether these are the name's octets. It allocates nothing.
     pub(crate) fn is(&self, octets: &[u8]) -> bool
         ensures { result ≡ bytes_eq octets.now (spelled self.now) }
     {
@@ -84,7 +84,7 @@ fn put_number(writer: &mut Writer, typ: u32, number: Option<u16>) -> Result<(), 
     }
 }
 
-// What comes after this prefix, where the octets begin so.
+// What follows this prefix, where the octets begin so.
 fn after<'o>(octets: &'o [u8], prefix: &[u8]) -> Option<&'o [u8]>
     ensures { MatchOption result ((rest : List ℕ) → octets.now ≢ prefix.now ++ rest)
         (λ rest. octets.now ≡ prefix.now ++ rest.now) }
@@ -92,7 +92,7 @@ fn after<'o>(octets: &'o [u8], prefix: &[u8]) -> Option<&'o [u8]>
     octets.strip_prefix(prefix)
 }
 
-// What comes after this component, where the octets begin so.
+// What follows this component, where the octets begin so.
 fn after_component<'o>(octets: &'o [u8], typ: u8, value: &[u8]) -> Option<&'o [u8]>
     requires typ { typ < 253 }
     requires short { length value.now < 253 }
@@ -105,7 +105,7 @@ fn after_component<'o>(octets: &'o [u8], typ: u8, value: &[u8]) -> Option<&'o [u
     after(rest, value)
 }
 
-// What comes after the component of this type that is a number, where there is one and the octets begin so.
+// What follows the component of this type that is a number, where there is one and the octets begin so.
 fn after_number(octets: &[u8], typ: u8, number: Option<u16>) -> Option<&[u8]>
     requires { typ < 253 }
     ensures { MatchOption result ((rest : List ℕ) → octets.now ≢ numbered typ number ++ rest)

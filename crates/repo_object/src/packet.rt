@@ -62,7 +62,7 @@ impl Packet {
     }
 
     /// A packet of its own, which is copied where it is shared, and read anew where its digest, its name or its content
-    /// is asked for. It takes no memory.
+    /// is asked for. It allocates nothing.
     pub fn alone(octets: Vec<u8>) -> Packet
         requires { IsOk (data_of octets.items) }
         ensures { result ≡ octets.items }

@@ -51,7 +51,7 @@ impl Model for Listing {
     } };
 }
 
-/// Whether a packet of this content is a record, of any kind. It takes no memory.
+/// Whether a packet of this content is a record, of any kind. It allocates nothing.
 pub fn is_record(content: &[u8]) -> bool
     ensures { result ≡ is_some (record_of content.now) }
 {
@@ -83,7 +83,7 @@ pub fn read_index(alloc: Global, content: &[u8], count: u16) -> Result<Vec<[u8; 
     }
 }
 
-// Whether a content is that of an index packet that lists so many digests. It takes no memory.
+// Whether a content is that of an index packet that lists so many digests. It allocates nothing.
 pub(crate) fn is_index(content: &[u8], count: u16) -> bool
     ensures { result ≡ is_some (index_of content.now count) }
 {

@@ -19,7 +19,7 @@ pub enum RecordView<'p> {
 }
 
 impl<'p> RecordView<'p> {
-    // The record of this content, or `None` where it is none. It takes no memory.
+    // The record of this content, or `None` where it is none. It allocates nothing.
     pub(crate) fn read(content: &'p [u8]) -> Option<RecordView<'p>>
         ensures { option_map seen_record result ≡ record_of content.now }
     {

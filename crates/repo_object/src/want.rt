@@ -177,7 +177,7 @@ impl Want {
     }
 
     /// Whether the octets are the packet that is wanted, under the key that the ring has at its publisher's number, or
-    /// the first reason why not. It takes no memory.
+    /// the first reason why not. It allocates nothing.
     pub fn check(&self, octets: &[u8], ring: &KeyRing) -> Result<(), PartRefusal>
         requires { self.now.part.publisher < length ring.now }
         ensures { MatchResult result
@@ -201,7 +201,7 @@ impl Want {
 // The type of the component that is a packet's digest, as an element's.
 const DIGEST_COMPONENT: u32 = types::IMPLICIT_SHA256_DIGEST_COMPONENT as u32;
 
-// The beginning of an Interest that asks for a name of so many octets, with room for the whole.
+// The beginning of an Interest that asks for a name of so many octets, with capacity for the whole.
 fn begun(alloc: Global, asked: usize) -> Result<Writer, AllocError>
     requires { asked ≤ 1000 }
     ensures { IfOk result (λ writer. writer ≡ interest_prefix asked) }

@@ -87,7 +87,7 @@ module _ (p : PlanState) (t : Part) (s : PlanIsSound p) (can : CanBeHeld p t) (f
   t_held : holds with_it t ≡ true
   t_held = held_too t ∙ or_left (eq_by_cmp part_cmp t t) _ (eq_itself exact_parts t)
 
-  -- what was wanted still is, but for the part
+  -- what was wanted still is, except the part
   abbrev is_other : Part → Bool
   is_other u = not (eq_by_cmp part_cmp t u)
 

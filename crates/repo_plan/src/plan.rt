@@ -33,14 +33,14 @@ pub struct Plan {
     done: Runs<u32>,
     // By publication, the numbers of the held parts of those that are not done.
     held: Runs<(u32, u16)>,
-    // What each held record tells. A publication that is done and has no entry is hidden.
+    // What each held record says. A publication that is done and has no entry is hidden.
     shapes: SortedMap<(u32, u16), Shape>,
     claims: [Option<Part>; 16],
     attempts: HashMap<Part, u32>,
     // How many parts are held, and how many are wanted.
     held_count: u64,
     wanted_count: u64,
-    // There is room for so many more in each of the four.
+    // There is capacity for so many more in each of the four.
     spare: usize,
 }
 

@@ -106,7 +106,7 @@ pub(crate) fn listed_by(shape: Option<Shape>, part: u16) -> u16
     }
 }
 
-// How many parts besides the record are known of, of a publication whose record tells this, or is not held.
+// How many parts besides the record are known of, of a publication whose record says this, or is not held.
 pub(crate) fn last_known_part(shape: Option<Shape>) -> u32
     ensures { result ≡ last_known_part shape }
 {

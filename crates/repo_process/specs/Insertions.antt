@@ -33,7 +33,7 @@ with_changed number change i (Some p) = with_process number (change p) i
 abbrev pub changes_process : ℕ → (Process → Process) → Insertions → Insertions
 changes_process number change i = with_changed number change i (value_of nat_cmp i.processes number)
 
--- What a block comes to is kept.
+-- The insertions after a block, by its state.
 abbrev pub with_arrival : ℕ → Insertions → BlockState → Insertions
 with_arrival number i Unknown = i
 with_arrival number i Already = i

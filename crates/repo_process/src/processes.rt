@@ -73,7 +73,7 @@ impl Processes {
         Ok(number)
     }
 
-    /// The number that the next process gets, or `None` where the numbers are spent. It takes no memory.
+    /// The number that the next process gets, or `None` where the numbers are spent. It allocates nothing.
     pub fn next(&self) -> Option<u32>
         ensures { result ≡ next_number self.now }
     {
@@ -99,7 +99,7 @@ impl Processes {
         }
     }
 
-    /// Drops a block of a process that was not published. It takes no memory.
+    /// Drops a block of a process that was not published. It allocates nothing.
     pub fn take_back(&mut self, process: u32, index: u64)
         requires { IsSomeAnd (value_of nat_cmp self.old.processes process)
             (λ p. (p.published ≡ false) × IsTrue (has_block p index)) }
@@ -138,7 +138,7 @@ impl Processes {
         }))
     }
 
-    /// The same, lent. It takes no memory.
+    /// The same, lent. It allocates nothing.
     pub fn whole(&self, process: u32) -> Option<(&Name, &[Vec<u8>])>
         ensures object { MatchOption result
             (whole_object (value_of nat_cmp self.now.processes process) ≡ None)
@@ -150,7 +150,7 @@ impl Processes {
         self.insertions[place].whole()
     }
 
-    /// The object of a process counts as published, and its blocks are dropped. It takes no memory.
+    /// The object of a process counts as published, and its blocks are dropped. It allocates nothing.
     pub fn published(&mut self, process: u32)
         requires { IsSome (whole_object (value_of nat_cmp self.old.processes process)) }
         ensures { self.new ≡ changes_process process closed self.old }
@@ -158,7 +158,7 @@ impl Processes {
         let _blocks = self.hand_over(process);
     }
 
-    /// The same, where the blocks are handed over in place of being dropped, in order of index. It takes no memory.
+    /// The same, where the blocks are handed over in place of being dropped, in order of index. It allocates nothing.
     pub fn hand_over(&mut self, process: u32) -> Vec<Vec<u8>>
         requires { IsSome (whole_object (value_of nat_cmp self.old.processes process)) }
         ensures blocks { option_map (λ o. o.contents)
@@ -173,7 +173,7 @@ impl Processes {
     }
 
     /// The object of a process counts as unpublished again, with these blocks in order of index: for blocks that were
-    /// handed over in vain. It takes no memory.
+    /// handed over in vain. It allocates nothing.
     pub fn reopen(&mut self, process: u32, contents: Vec<Vec<u8>>)
         requires closed { IsSomeAnd (value_of nat_cmp self.old.processes process)
             (λ p. (p.published ≡ true) × (length contents.items ≡ p.last + 1 - p.first)) }
@@ -185,7 +185,7 @@ impl Processes {
         self.insertions[place].reopen(contents);
     }
 
-    /// Whether a block of a process would be the last one that is missing. It takes no memory.
+    /// Whether a block of a process would be the last one that is missing. It allocates nothing.
     pub fn completes(&self, process: u32, index: u64) -> bool
         ensures last { (content : List ℕ) → IsContent content
             → result ≡ is_last (block_state self.now.processes process index content) }
@@ -197,7 +197,7 @@ impl Processes {
         }
     }
 
-    /// Drops all processes. Numbers go on. It takes no memory.
+    /// Drops all processes. Numbers go on. It allocates nothing.
     pub fn clear(&mut self)
         ensures { self.new ≡ record self.old { processes = [] } }
     {

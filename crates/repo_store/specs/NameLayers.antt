@@ -21,7 +21,7 @@ pub record LayersAreInOrder (slots : Slots) (l : Names) : Type 0 where
   pub settled : AreInOrder slots l.settled.items
   pub recent : AreInOrder slots l.recent.items
 
--- There is room for so many more, and for all of them to be recent, and to settle.
+-- There is capacity for so many more, and for all of them to be recent, and to settle.
 pub record HasRoom (l : Names) (n : ℕ) : Type 0 where
   pub waiting : n + vec_len l.waiting ≤ vec_capacity l.waiting
   pub recent : n + (vec_len l.recent + vec_len l.waiting) ≤ vec_capacity l.recent

@@ -9,7 +9,7 @@ use Rattle.sorted_lists.specs.SortedList.{Rises, keys, contains, insert_key, wit
 use Rattle.repo_plan.specs.Parts.{Pair, part_cmp}
 use Rattle.repo_plan.specs.Plan.{is_in}
 
--- What is stored, and for how many packets more there is room.
+-- What is stored, and for how many more packets there is capacity.
 pub record StoreList : Type 0 where
   pub packets : List (Part × List ℕ)
   pub spare : ℕ

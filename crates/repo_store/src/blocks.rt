@@ -58,7 +58,7 @@ pub(crate) fn piece(held: &[Held], start: usize, end: usize) -> &[Held]
     piece
 }
 
-// The blocks of what is held, as many as there is room for. What comes after the last is in none.
+// The blocks of what is held, as many as there is capacity for. What comes after the last is in none.
 pub(crate) fn make_blocks(blocks: &mut Vec<Block>, held: &[Held])
     ensures { AreBlocks held.now blocks.new.items }
 {

@@ -45,7 +45,7 @@ impl Names {
         *self.recent.allocator()
     }
 
-    // Makes room for so many more.
+    // Reserves capacity for so many more.
     pub(crate) fn reserve(&mut self, n: usize) -> Result<(), AllocError>
         ensures same { HasSame self.old self.new }
         ensures kept { (m : ℕ) → HasRoom self.old m → HasRoom self.new m }
@@ -62,7 +62,7 @@ impl Names {
         self.settled.reserve(recent)
     }
 
-    // What is held waits from now on. There is room for one more.
+    // What is held waits from now on. There is capacity for one more.
     pub(crate) fn put(&mut self, held: Held)
         requires { HasRoom self.old 1 }
         ensures settled { self.new.settled.items ≡ self.old.settled.items }
@@ -93,7 +93,7 @@ impl Names {
         lesser(self.settled.first(kept, asked, can_be_prefix), ordered)
     }
 
-    // What waits and is held is put in its place. There is room for that.
+    // What waits and is held is put in its place. There is capacity for that.
     pub(crate) fn order(&mut self, kept: &PacketTable)
         requires index { IsIndexOf kept.now.slots kept.now.held self.old }
         requires room { HasRoom self.old 0 }
@@ -115,7 +115,7 @@ impl Names {
         self.dropped = 0;
     }
 
-    // What waits is put in its place. There is room for that.
+    // What waits is put in its place. There is capacity for that.
     fn place_waiting(&mut self, kept: &PacketTable)
         requires in_order { LayersAreInOrder kept.now.slots self.old }
         requires room { HasRoom self.old 0 }
@@ -261,7 +261,7 @@ fn is_stored(kept: &PacketTable, held: &Held) -> bool
     }
 }
 
-// What is in order gains all of these, for which there is room. Where they come in order too, little is moved.
+// What is in order gains all of these, for which there is capacity. Where they come in order too, little is moved.
 fn insert_all(index: &mut Vec<Held>, kept: &PacketTable, held: &[Held])
     requires in_order { AreInOrder kept.now.slots index.old.items }
     requires room { vec_len index.old + length held.now ≤ vec_capacity index.old }

@@ -49,7 +49,7 @@ pub(crate) const FIRST: Part = Part {
     part: 0,
 };
 
-// The packets of parts, each different one once, in slots that the slab picks; and room for more.
+// The packets of parts, each different one once, in slots that the slab picks; with capacity for more.
 #[derive(Drop)]
 pub(crate) struct PacketTable {
     packets: Slab<Packet>,
@@ -172,7 +172,7 @@ impl PacketTable {
         }
     }
 
-    // Makes room for `n` parts, unless there is room for so many already.
+    // Reserves capacity for `n` parts, unless there is as much already.
     pub(crate) fn reserve(&mut self, n: usize) -> Result<(), AllocError>
         ensures ok { OnOk result (self.new ≡ record self.old { spare = max self.old.spare n }) }
         ensures err { OnErr result (self.new ≡ self.old) }
@@ -224,8 +224,8 @@ impl PacketTable {
         sought.is(self.packets.get(slot).unwrap())
     }
 
-    // Puts a packet under its part, where room was made. The answer is the packet's slot, or `None` where there is a
-    // packet of the part already, which then stays. The room counts as used all the same.
+    // Puts a packet under its part, within the capacity. The answer is the packet's slot, or `None` where there is a
+    // packet of the part already, which then stays. The capacity counts as used all the same.
     pub(crate) fn put(&mut self, part: Part, packet: Packet) -> Option<usize>
         requires { 0 < self.old.spare }
         ensures { MatchOption result

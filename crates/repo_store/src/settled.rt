@@ -50,7 +50,7 @@ impl Settled {
         self.held.len()
     }
 
-    // Makes room for so many more.
+    // Reserves capacity for so many more.
     pub(crate) fn reserve(&mut self, n: usize) -> Result<(), AllocError>
         ensures items { self.new.items ≡ self.old.items }
         ensures kept { self.old.room ≤ self.new.room }
@@ -83,7 +83,7 @@ impl Settled {
         index.first(&self.blocks, asked, can_be_prefix)
     }
 
-    // What is recent becomes settled. There is room for that.
+    // What is recent becomes settled. There is capacity for that.
     pub(crate) fn settle(&mut self, recent: &[Held], kept: &PacketTable)
         requires settled { AreInOrder kept.now.slots self.old.items }
         requires recent { AreInOrder kept.now.slots recent.now }

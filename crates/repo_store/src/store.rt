@@ -19,7 +19,7 @@ use repo_plan::Part;
 use std::alloc::{AllocError, Global};
 use std::marker::Model;
 
-/// The packets of parts, each part once, and room for more. Packets of the same octets are kept once.
+/// The packets of parts, each part once, with capacity for more. Packets of the same octets are kept once.
 ///
 /// A part, and a packet that is asked for by its full name, is found at once. What is put waits for
 /// `order_names` before it is found by its name, or by a prefix of that, without a walk over all
@@ -37,7 +37,7 @@ impl Drop for Store {
 }
 
 // A store is seen as the list of its parts and their packets, beside the number of packets that
-// there is room for.
+// there is capacity for.
 impl Model for Store {
     ghost use Rattle.repo_store.specs.StoreList.{StoreList};
 
@@ -120,7 +120,7 @@ impl Store {
         Ok(self.put_shared(part, packet))
     }
 
-    /// Makes room for `n` packets, unless there is room for so many already.
+    /// Reserves capacity for `n` packets, unless there is as much already.
     pub fn reserve(&mut self, n: usize) -> Result<(), AllocError>
         ensures ok { OnOk result (self.new ≡ record self.old { spare = max self.old.spare n }) }
         ensures err { OnErr result (self.new ≡ self.old) }
@@ -132,7 +132,7 @@ impl Store {
         self.kept.reserve(n)
     }
 
-    /// Puts a packet that reads as Data under its part, where room was made. It takes no memory.
+    /// Puts a packet that reads as Data under its part, where capacity was reserved. It allocates nothing.
     ///
     /// The answer is `false` where there is a packet of the part already, which then stays. The room
     /// counts as used all the same.
@@ -192,7 +192,7 @@ impl Store {
         }
     }
 
-    /// Puts what waits in its place by its name, for an asker that may come by name. It takes no memory.
+    /// Puts what waits in its place by its name, for an asker that may come by name. It allocates nothing.
     ///
     /// `serve` answers the same before and after, and after it without a walk over what waited.
     pub fn order_names(&mut self)
@@ -201,7 +201,7 @@ impl Store {
         self.names.order(&self.kept);
     }
 
-    /// Drops the packets of a publication's parts, and gives their number. It takes no memory.
+    /// Drops the packets of a publication's parts, and gives their number. It allocates nothing.
     pub fn drop_parts(&mut self, publisher: u32, seq: u16) -> u32
         ensures number { result ≡ length (packets_in (publisher, seq) self.old.packets) }
         ensures dropped { self.new ≡ record self.old {

@@ -89,7 +89,7 @@ fn ready(rt: &impl Abort, g: &Group, mirror: &Mirror)
     assert!(rt; g.roster().len() == mirror.vector().members());
 }
 
-// What comes for a job: its packet, unless it is lost.
+// What is received for a job: its packet, unless it is lost.
 fn checked<'p>(
     job: &'p Job,
     octets: &'p [u8],
@@ -105,7 +105,7 @@ fn checked<'p>(
     check_part(&job.want, octets, ring).ok()
 }
 
-// Takes what comes of the first of these jobs. The answer is how many parts came.
+// Takes the result of the first of these jobs. The answer is how many parts were received.
 fn take_first<'p>(
     rt: &(impl Abort + AllocGlobal),
     filter: &Filter,
@@ -131,7 +131,7 @@ fn few_tries(rt: &impl Abort, job: &Job)
     assert!(rt; job.base < 1000);
 }
 
-// Takes what comes of the next job, if there is one. The answer is the part, the attempts before, and how many parts
+// Takes the result of the next job, if there is one. The answer is the part, the attempts before, and how many parts
 // came.
 fn fetch_next(
     rt: &(impl Abort + AllocGlobal),

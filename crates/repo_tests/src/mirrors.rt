@@ -113,7 +113,7 @@ fn tell(rt: &impl Abort, world: &mut World, i: u32, k: u32)
     );
 }
 
-// A fetch by two workers, who try each part once, comes to these counts.
+// A fetch by two workers, who try each part once, has these counts.
 fn compare_fetch<R: Threads + Abort + Sync>(
     rt: &R,
     world: &mut World,

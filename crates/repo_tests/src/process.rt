@@ -25,7 +25,7 @@ fn started(rt: &(impl Abort + AllocGlobal)) -> Processes {
     processes
 }
 
-// What blocks come to, one after another: process, index, and how the process stands then.
+// The results of blocks, one after another: process, index, and the state of the process then.
 const BLOCKS: [(u32, u64, BlockState); 8] = [
     (2, 5, BlockState::Unknown),
     (0, 5, BlockState::Unknown),

@@ -8,7 +8,7 @@ use repo_watch::{Filter, Pattern, TakeFault, Watchers};
 use std::process::Abort;
 use std::test::*;
 
-// Whether the pattern is for the publisher's object of this name.
+// Whether the pattern accepts the publisher's object of this name.
 pub(crate) fn is_for(pattern: &Pattern, publisher: u32, name: &Name) -> bool
     ensures { result ≡ accepts pattern.now publisher name.now }
 {

@@ -9,7 +9,7 @@ use std::process::Abort;
 use std::test::*;
 use std::thread::Threads;
 
-// A world tells how many steps it made, settles that were begun among them, and which group it is of.
+// A world counts its steps, settles that were begun among them, and knows its group.
 #[test]
 fn a_world_counts_its_steps(rt: HostRuntime) {
     let draws = FixedDraws::new(100);

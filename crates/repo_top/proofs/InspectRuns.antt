@@ -28,7 +28,7 @@ run_of_both read rest whole =
           more ↦ same_inspection read rest more.1
     ]
 
--- what holds of the story of what was read holds of the story of the input
+-- what holds of the run of what was read holds of the run of the input
 pub by_run : (Q : ScriptRun → Type 0) (before left : Option (List ℕ)) (read : List ℕ)
     → Keeps before (prepend_known read left) → IsWhole read left → Q (inspect_run read)
     → IfSome (option_map inspect_run before) Q

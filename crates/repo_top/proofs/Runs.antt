@@ -30,7 +30,7 @@ use Rattle.repo_io.proofs.LineLaws.{open_line, whole_first}
 use Rattle.repo_io.proofs.Outputs.{prefix_after, prefix_so_far, prefix_whole, nothing_gained}
 use Rattle.repo_top.proofs.ScriptRuns.{after_after, first_line_run, goes_on, long_refused, no_lines, refused_run}
 
--- ---- what a status says of a story
+-- ---- what a status says of a run
 
 pub reports_after : (s : ScriptRun) (a b d : Option (List ℕ)) (text : List ℕ) (status : Status) → GainsText a b text
     → IsStatusOf s b d status → IsStatusOf (after_text text s) a d status
@@ -173,7 +173,7 @@ begun_judged (o ∷ os) h =
     (le-ltb 32768 (length (o ∷ os)) h.short) in
     ap (filter can_be_evaluated) one ∙ rw not_yet refl
 
--- the first line that can be judged, and those after it
+-- the first line that can be evaluated, and those after it
 pub record Evaluated (line : List ℕ) (ls : List (List ℕ)) : Type 0 where
   pub others : List (List ℕ)
   pub are : ls ≡ line ∷ others

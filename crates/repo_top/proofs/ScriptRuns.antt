@@ -1,4 +1,4 @@
--- One line of a story at a time.
+-- One line of a run at a time.
 use Rattle.std.proofs.Common.{◌≡◌, ◌≢◌, ℕ, ◌+◌, ◌-◌, ◌≤◌, true, false, not, eqb, leb, List, [], ◌∷◌, ◌++◌, length, take}
 use Rattle.std.proofs.Common.{drop, get_or, Option, Err, refl, sym, ap, ◌∙◌, append_assoc, length-append, arith, ◌⊎◌}
 use Rattle.std.proofs.Common.{inl, inr}
@@ -112,7 +112,7 @@ module _ (env : RunEnvironment) (r : Reached) where
     | inr beyond ↦ rw beyond refl
   ]
 
-  -- such a line ends the story, whatever of it is known
+  -- such a line ends the run, whatever of it is known
   long_run : (prefix rest : List ℕ) (others : List (List ℕ)) → IsTooLong prefix
       → run_from env r ((prefix ++ rest) ∷ others) ≡ ended r.state (refusal_text (r.lines + 1) Limit)
       (Refused (r.lines + 1) 4)
@@ -122,7 +122,7 @@ module _ (env : RunEnvironment) (r : Reached) where
   not_nothing : (octets : List ℕ) → IsTooLong octets → octets ≢ []
   not_nothing octets long e = let none = ap length e in omega (arith, none, long.long)
 
-  -- the story of octets begins with the line at their start
+  -- the run of octets begins with the line at their start
   pub first_line_run : (held rest : List ℕ) (count : ℕ) → HasLine count held
       → run_from env r (lines (held ++ rest)) ≡ run_from env r
       (take count held ∷ lines (drop count held ++ rest))

@@ -29,7 +29,7 @@ pub record Took (env : RunEnvironment) (r : Reached) (line : List ℕ) (next : R
   pub then : next ≡ reached_after r line report next.state
   pub gained : GainsText old new report
 
--- What a status says of a story whose text an output was to gain.
+-- What a status says of a run whose text an output was to gain.
 pub record IsStatusOf (s : ScriptRun) (old new : Option (List ℕ)) (status : Status) : Type 0 where
   pub ending : IsEndOfRun status → status ≡ status_of s.ending
   pub text : IsEndOfRun status → GainsText old new s.text
@@ -59,7 +59,7 @@ pub record Stops (env : RunEnvironment) (r : Reached) (line : List ℕ) (old new
   pub tells : (others : List (List ℕ)) → IsStatusOf (run_from env r (line ∷ others)) old new status
   pub at : (number : ℕ) → IsStoppedAt status number → number ≡ r.lines + 1
 
--- The world that is left is that of the story, with its mirrors.
+-- The world that is left is that of the run, with its mirrors.
 pub record LeavesWorld (end : Option GroupState) (s : ScriptRun) : Type 0 where
   pub world : option_map world_of end ≡ s.world
   pub keys : IfSome end (λ world. world.keys ≡ s.keys)
@@ -111,7 +111,7 @@ pub record WritesLines (env : RunEnvironment) (old new : Option (List ℕ)) (sta
   -- not written.
   pub bounded_after_write_fault : status ≡ WriteFault → IfSome old (λ _. FallsShortNear env old new input rest)
 
--- What a run over a known input comes to, which left this world where it is done.
+-- The result of a run over a known input, which left this world where it is done.
 pub record Ran (env : RunEnvironment) (old new : Option (List ℕ)) (status : Status) (end : Option GroupState)
     (input rest : List ℕ) : Type 0 where
   pub tells : IsStatusOf (run_of env input) old new status

@@ -1,4 +1,4 @@
--- The forms of a run, and what comes of each over an input.
+-- The forms of a run, and the result of each over an input.
 use Rattle.std.specs.Prelude.{ℕ, ⊤, List, [], ◌∷◌, Option, Some, None, codes, if◌then◌else◌}
 use Rattle.std.specs.Option.{option_map}
 use Rattle.std.specs.Str.{bytes_eq}
@@ -70,7 +70,7 @@ InputIsRead (Some Run) = ⊤
 InputIsRead (Some Inspect) = ⊤
 InputIsRead (Some (Gen measures)) = ⊥
 
--- What comes of the words over an input, where it is known or not needed.
+-- The result of the words over an input, where it is known or not needed.
 abbrev pub asked_run : RunEnvironment → Option Asked → Option (List ℕ) → Option ScriptRun
 asked_run env None input = None
 asked_run env (Some Run) input = option_map (run_of env) input

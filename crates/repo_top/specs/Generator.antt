@@ -70,6 +70,6 @@ gen_text m =
     codes "group /g\n" ++ texts member_text m.members
     ++ texts (object_text m.members m.seed) m.objects ++ codes "settle 4\n" ++ codes "summary\n"
 
--- The story of `gen`: it writes the script, and is done.
+-- The run of `gen`: it writes the script, and is done.
 abbrev pub gen_run : GeneratorInputs → ScriptRun
 gen_run m = plain_run (gen_text m) Done

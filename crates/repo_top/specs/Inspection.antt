@@ -1,4 +1,4 @@
--- What comes of an input that is inspected: the text, and the end.
+-- The result of an input that is inspected: the text, and the end.
 use Rattle.std.specs.Prelude.{ℕ, Bool, not, ◌||◌, List, length, Option, Some, None, Result, Ok, Err, nat_lt, ◌==◌}
 use Rattle.std.specs.Prelude.{if◌then◌else◌}
 use Rattle.std.specs.List.{filter}
@@ -20,12 +20,12 @@ is_space octet = octet == 32 || octet == 9 || octet == 10 || octet == 13
 abbrev pub without_spaces : List ℕ → List ℕ
 without_spaces input = filter (λ octet. not (is_space octet)) input
 
--- A fault of the elements ends the story too, but with its own line alone.
+-- A fault of the elements ends the run too, but with its own line alone.
 abbrev pub sound_ending : Option TlvFault → Ending
 sound_ending None = Done
 sound_ending (Some fault) = Refused 1 (refusal_number BadPacket)
 
--- The story of octets that give these lines.
+-- The run of octets that give these lines.
 abbrev pub lines_run : Lines → ScriptRun
 lines_run lines = plain_run (printed_with_fault lines.text lines.fault) (sound_ending lines.fault)
 
@@ -34,12 +34,12 @@ abbrev pub octets_run : List ℕ → ScriptRun
 octets_run octets =
     if nat_lt 8800 (length octets) then refused Limit else lines_run (inspected octets)
 
--- The story of an input whose digits gave these octets, or couldn't be decoded.
+-- The run of an input whose digits gave these octets, or couldn't be decoded.
 abbrev pub decoded_run : Result (List ℕ) FromHexError → ScriptRun
 decoded_run (Ok octets) = octets_run octets
 decoded_run (Err e) = refused Syntax
 
--- The story of an input that is inspected: pairs of hexadecimal digits, with spaces anywhere. An input of more than
+-- The run of an input that is inspected: pairs of hexadecimal digits, with spaces anywhere. An input of more than
 -- 16,777,216 octets is refused before anything else is asked of it.
 unfoldable pub inspect_run : List ℕ → ScriptRun
 inspect_run input =

@@ -19,9 +19,9 @@ pub record UsageIsOfWords (asked : Option Asked) (status : Status) (SameSource S
   -- Then nothing is read or written.
   pub untouched : status ≡ Usage → SameSource × SameSink
 
--- What was written is of the story that the words ask for, where source and sink know their octets.
+-- What was written is of the run that the words ask for, where source and sink know their octets.
 pub record ReportsRun (script_run : Option ScriptRun) (old new : Option (List ℕ)) (status : Status) : Type 0 where
-  -- On `Done`, `Refused` and `Foreign` the status is the story's end,
+  -- On `Done`, `Refused` and `Foreign` the status is the run's end,
   pub end : IsEndOfRun status → IfSome script_run (λ s. status ≡ status_of s.ending)
   -- and what was written is its text.
   pub text : IsEndOfRun status → IfSome script_run (λ s. GainsText old new s.text)
@@ -38,7 +38,7 @@ pub record ReadsInput (asked : Option Asked) (left rest : Option (List ℕ)) (st
   -- After `ReadFault` an inspection has written nothing.
   pub unwritten : IsInspected asked → status ≡ ReadFault → SameSink
 
--- On `Done` the world that is left is the story's, with its names and keys and its mirrors.
+-- On `Done` the world that is left is the run's, with its names and keys and its mirrors.
 pub record LeavesLast (asked : Option Asked) (script_run : Option ScriptRun) (status : Status) (end : Option GroupState)
     : Type 0 where
   pub world : status ≡ Done → IfSome script_run (λ s. option_map world_of end ≡ s.world)
@@ -57,6 +57,6 @@ pub record HasCause (asked : Option Asked) (script_run : Option ScriptRun) (stat
   pub foreign : (line : ℕ) → status ≡ Foreign line → IsRun asked
   -- `gen` answers `Done` unless the sink fails or memory runs out.
   pub generated : IsGenerated asked → (status ≡ Done) ⊎ ((status ≡ NoMemory) ⊎ (status ≡ WriteFault))
-  -- Where nothing fails, the story's end comes, unless memory runs out.
+  -- Where nothing fails, the answer is the run's end, unless memory runs out.
   pub complete : (SourceFailed → ⊥) → (SinkFailed → ⊥)
       → IfSome script_run (λ s. (status ≡ status_of s.ending) ⊎ (status ≡ NoMemory))

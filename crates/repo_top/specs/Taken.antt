@@ -16,7 +16,7 @@ use Rattle.script_story.specs.ScriptRun.{nothing_reached, run_from}
 abbrev pub taken : List ℕ → List ℕ → List ℕ
 taken input rest = take (length input - length rest) input
 
--- A line that can be judged: its line feed is there, or it is too long, whatever follows.
+-- A line that can be evaluated: its line feed is there, or it is too long, whatever follows.
 abbrev pub can_be_evaluated : List ℕ → Bool
 can_be_evaluated line = has_feed line || nat_lt line_octets (length line)
 
@@ -31,11 +31,11 @@ lines_taken input (octet ∷ rest) = lines_so_far (taken input (octet ∷ rest))
 
 -- ---- texts
 
--- What is reported of the first lines of a script.
+-- The report of the first lines of a script.
 abbrev pub report_of : RunEnvironment → List (List ℕ) → List ℕ
 report_of env prefix = (run_from env nothing_reached prefix).text
 
--- What is reported of an input up to and with the line of this number.
+-- The report of an input up to and with the line of this number.
 abbrev pub report_through : RunEnvironment → ℕ → List ℕ → List ℕ
 report_through env line input = report_of env (take line (lines input))
 

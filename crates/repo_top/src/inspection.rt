@@ -13,7 +13,7 @@ pub(crate) const MOST_OCTETS: usize = 16_777_216;
 // How many octets a packet has at most.
 const MOST_OF_PACKET: usize = 8_800;
 
-// What comes of an input: the text, and the end.
+// The result of an input: the text, and the end.
 #[derive(Drop)]
 pub(crate) struct Inspected {
     pub(crate) text: Vec<u8>,

@@ -5,7 +5,7 @@ ghost use Rattle.script_story.specs.ScriptRun.{plain_run};
 ghost use Rattle.repo_top.specs.Forms.{asked_of, asked_run};
 ghost use Rattle.repo_top.specs.Inspection.{inspect_run};
 
-/// The stories of four small inputs that are inspected, worked out.
+/// The runs of four small inputs that are inspected, worked out.
 pub fn small_inspections()
     ensures name { inspect_run (codes "0706 080161\t320100\r\n") ≡ plain_run
         (codes "07 Name 6\n  08 GenericNameComponent 1 61\n  32 SegmentNameComponent 1 00\n") Done }

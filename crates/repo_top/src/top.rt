@@ -42,7 +42,7 @@ pub fn run<R: Threads + Sync, S: Source, K: Sink, N: Net + Sync, D: Draws>(
     ensures usage { UsageIsOfWords (asked_of (map string_bytes words.now)) result
         (source.new ≡ source.old) (sink.new ≡ sink.old) }
 
-    // On `Done`, `Refused` and `Foreign` the status is the end of the story that the words ask for, and what was
+    // On `Done`, `Refused` and `Foreign` the status is the end of the run that the words ask for, and what was
     // written is its text. Whatever comes, it is a prefix of that text.
     ensures script_run { ReportsRun (asked_run (env_by (D.draw draws.now) (N.passes net.now))
         (asked_of (map string_bytes words.now)) (S.left source.old)) (K.out sink.old) (K.out sink.new) result }
@@ -51,7 +51,7 @@ pub fn run<R: Threads + Sync, S: Source, K: Sink, N: Net + Sync, D: Draws>(
     ensures input { ReadsInput (asked_of (map string_bytes words.now)) (S.left source.old) (S.left source.new) result
         (source.new ≡ source.old) (sink.new ≡ sink.old) }
 
-    // On `Done` the world that is left is the story's, with its mirrors, and there is none in any other case.
+    // On `Done` the world that is left is the run's, with its mirrors, and there is none in any other case.
     ensures world { LeavesLast (asked_of (map string_bytes words.now))
         (asked_run (env_by (D.draw draws.now) (N.passes net.now)) (asked_of (map string_bytes words.now))
         (S.left source.old)) result end.new }

@@ -24,7 +24,7 @@ abbrev pub after_watch_calls : List WatchCall → List Watching → List Watchin
 after_watch_calls [] ws = ws
 after_watch_calls (call ∷ calls) ws = after_watch_calls calls (after_watch_call call ws)
 
--- What a take tells.
+-- What a take reports.
 abbrev pub tells : ℕ → List Entry → List Watching → List Pair
 tells n entries ws = news_of (watch_of n ws) entries
 
@@ -40,7 +40,7 @@ IsAnnouncedOnce = (ws : List Watching) (n : ℕ) (first : List Entry) (between :
     → contains pair_cmp (tells n first ws) pair ≡ true
     → contains pair_cmp (tells n later (after_watch_calls between (after_take n first ws))) pair ≡ false
 
--- After a take, and any calls after it, each entry of its catalogue that the pattern is for is reported.
+-- After a take, and any calls after it, each entry of its catalogue that the pattern accepts is reported.
 abbrev pub AllIsAnnounced : Type 0
 AllIsAnnounced = (ws : List Watching) (n : ℕ) (entries : List Entry) (calls : List WatchCall) (w : Watching)
     (pair : Pair)

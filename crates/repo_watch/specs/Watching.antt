@@ -21,7 +21,7 @@ pub record Watching : Type 0 where
 abbrev pub watching : Pattern → List Entry → Watching
 watching pattern entries = record { pattern = pattern; announced = map publication_of entries }
 
--- The pattern is for the entry.
+-- The pattern accepts the entry.
 abbrev pub is_for : Pattern → Entry → Bool
 is_for pattern e = accepts pattern e.publisher e.name
 

@@ -57,7 +57,7 @@ impl Watcher {
         Ok(pairs)
     }
 
-    // The publications of these entries that the pattern is for and that were not reported, in one pass over both. The
+    // The publications of these entries that the pattern accepts and that were not reported, in one pass over both. The
     // rule is asked of those alone that were not reported.
     fn news(
         &self,

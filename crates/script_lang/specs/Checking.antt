@@ -1,4 +1,4 @@
--- What lines declare, and which line is refused for what came before it.
+-- What lines declare, and which line is refused because of earlier ones.
 use Rattle.std.specs.Prelude.{ℕ, Option, position, ◌+◌, ◌-◌, ◌/◌, Bool, true, false, not, ◌&&◌, ◌||◌, List, [], ◌∷◌}
 use Rattle.std.specs.Prelude.{◌++◌, length, map, Result, Ok, Err, nat_le, if◌then◌else◌}
 use Rattle.std.specs.List.{list_all, list_any}

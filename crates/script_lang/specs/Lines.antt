@@ -163,11 +163,11 @@ abbrev pub ends_with : ℕ → List ℕ → Bool
 ends_with octet octets =
     not (length octets == 0) && slice_index octets (length octets - 1) == octet
 
--- The octets but for the last.
+-- The octets except the last.
 abbrev pub without_last_octet : List ℕ → List ℕ
 without_last_octet octets = take (length octets - 1) octets
 
--- The octets but for a carriage return at their end.
+-- The octets except a carriage return at their end.
 abbrev pub without_return : List ℕ → List ℕ
 without_return octets = if ends_with 13 octets then without_last_octet octets else octets
 

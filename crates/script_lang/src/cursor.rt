@@ -13,7 +13,7 @@ use std::marker::Model;
 // The words of a line that are still to be read.
 //
 // A word that leaves its range stops nothing, since the words after it may be no words at all,
-// which is reported first: something stands in for its value, and `end` tells that it left its range.
+// which is reported first: something stands in for its value, and `end` says that it left its range.
 #[derive(Drop)]
 pub(crate) struct Cursor<'a> {
     rest: &'a [&'a str],

@@ -44,7 +44,7 @@ pub fn words_are_their_texts()
         → (word_of kind word ≡ Ok value) ↔ (IsOfKind kind value × IsWordText kind value word) }
 {}
 
-/// Octets are read as a line just where they are a text of it: one has its values but for spaces, the
+/// Octets are read as a line just where they are a text of it: one has its values, apart from spaces, the
 /// case of digits, and the forms that a name or a content may be written in.
 pub fn lines_are_their_texts()
     ensures { (s : Stated) (octets : List ℕ) → (line_of octets ≡ Ok (Some s)) ↔ IsLineText s octets }

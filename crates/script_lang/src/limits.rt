@@ -24,7 +24,7 @@ pub const PARTS_LIMIT: u64 = 100_000;
 pub const SETTLES_LIMIT: u64 = 1_000;
 
 // The ranges of words, in octets: the value of a node's or the group's name, of an object's name, a key,
-// octets that are handed in, the content of a segment, of a block and of a publication.
+// octets that are given, the content of a segment, of a block and of a publication.
 pub(crate) const NODE_NAME: u64 = 200;
 
 pub(crate) const OBJECT_NAME: u64 = 400;

@@ -65,7 +65,7 @@ impl Words {
         }
     }
 
-    /// Takes a line, or refuses it for what came before it.
+    /// Takes a line, or refuses it because of earlier lines.
     pub fn check(&mut self, line: &Line) -> Result<(), CheckFault>
         ensures ok { OnOk result (after_line self.old (stated line.now) ≡ Ok self.new) }
         ensures refused { IfErr result (λ fault. (fault ≡ CheckFault.NoMemory)

@@ -54,7 +54,7 @@ step_line_error step_fault.NoSuchNumber = Refused refusal.NoSuchNumber
 step_line_error step_fault.Foreign = Foreign
 step_line_error step_fault.NoMemory = NoMemory
 
--- ---- what is reported of it
+-- ---- its report
 
 -- The status of a run that stops so at the line of this number.
 abbrev pub line_error_status : ℕ → LineError → Status

@@ -1,4 +1,4 @@
--- What the lines so far came to, as it is kept.
+-- The state after the lines so far, as it is kept.
 use Rattle.std.specs.Prelude.{ℕ, ◌≡◌, ◌<◌, ◌≤◌, ◌+◌, zero, Bool, true, false, List, [], map, length, string_bytes}
 use Rattle.std.specs.Prelude.{Option, Some, None, Ok}
 use Rattle.ndn_name.specs.Names.{Component}
@@ -50,7 +50,7 @@ mirrors_in Opening = []
 mirrors_in (Declaring group patterns) = map (mirror_begins (length group.members.names)) patterns.items
 mirrors_in (Acting world) = map mirror_as world.mirrors
 
--- What is kept, as a story sees it.
+-- What is kept, as a script's run has it.
 abbrev pub state_of : Phase → List (List Watching) → Declared → State
 state_of phase watchers d = record {
   declared = d;

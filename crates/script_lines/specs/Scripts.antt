@@ -6,7 +6,7 @@ use Rattle.script_lines.specs.declared.script.Script.{Script}
 use Rattle.script_lines.specs.RunStates.{IsRunState, state_of_run, steps}
 use Rattle.script_story.specs.ScriptRun.{Reached}
 
--- What the lines so far came to.
+-- The state after the lines so far.
 abbrev pub reached : Script → Reached
 reached s = record { lines = s.lines; octets = s.octets; printed = s.printed; state = state_of_run s.run_state }
 

@@ -4,7 +4,7 @@ ghost use Rattle.repo_watch.specs.Patterns.{accepts, begins_with, is_publisher};
 use ndn_name::Name;
 use repo_watch::Pattern;
 
-// Whether a pattern is for the publisher's object of this name.
+// Whether a pattern accepts the publisher's object of this name.
 pub(crate) fn accepts(pattern: &Pattern, publisher: u32, name: &Name) -> bool
     ensures { result ≡ accepts pattern.now publisher name.now }
 {

@@ -1,4 +1,4 @@
-//! The lines of a script, carried out one by one: each is read, judged by the lines before it, and done over the world
+//! The lines of a script, carried out one by one: each is read, tested after those before it, and done over the world
 //! of its group, and its report is written. Who calls it looks at the world between lines.
 //!
 //! What is promised of it: `docs/promises/script_lines.md`.

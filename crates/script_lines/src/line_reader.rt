@@ -118,7 +118,7 @@ impl LineReader {
         found
     }
 
-    // Reads as many octets as one call gives, and tells how many.
+    // Reads as many octets as one call gives, and returns how many.
     fn read<S: Source>(&mut self, source: &mut S) -> Result<usize, Failed>
         requires { LineIsBegun self.old }
         ensures kept { Keeps (prepend_known self.old (S.left source.old)) (prepend_known self.new (S.left source.new)) }

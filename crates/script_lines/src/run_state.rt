@@ -57,7 +57,7 @@ impl Drop for Phase {
     }
 }
 
-// What the lines so far came to.
+// The state after the lines so far.
 #[derive(Drop)]
 pub(crate) struct RunState {
     alloc: Global,
@@ -84,7 +84,7 @@ impl RunState {
         }
     }
 
-    // Takes a line, its line feed with it, and writes its report; or tells why not.
+    // Takes a line, its line feed with it, and writes its report; or returns why not.
     pub(crate) fn take<N: Net + Sync, D: Draws, R: Threads + Sync>(
         &mut self,
         rt: &R,
@@ -250,7 +250,7 @@ impl RunState {
         self.phase.add_client(node, key)
     }
 
-    // Carries out the event that a line states, and writes what came of it.
+    // Carries out the event that a line states, and writes its result.
     fn act<N: Net + Sync, D: Draws, R: Threads + Sync>(
         &mut self,
         rt: &R,
@@ -426,7 +426,7 @@ impl Phase {
     }
 }
 
-// Carries out an event, and writes what came of it.
+// Carries out an event, and writes its result.
 fn step<N: Net + Sync, D: Draws, R: Threads + Sync>(
     rt: &R,
     world: &mut World,

@@ -16,8 +16,8 @@ use script_report::{REPORT_LIMIT, Refusal};
 use std::alloc::Global;
 use std::thread::Threads;
 
-/// A script whose lines are carried out one by one. Contracts see it as what these came to (`reached`): a view would
-/// must be without functions, and the mirrors of a story have one.
+/// A script whose lines are carried out one by one. Contracts see the state after them (`reached`), not a view: a view
+/// must be without functions, and the mirrors of a run have one.
 #[derive(Drop)]
 pub struct Script {
     run_state: RunState,

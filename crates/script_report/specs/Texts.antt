@@ -89,7 +89,7 @@ fetched_text verb label planned kept attempts = line verb
 abbrev pub fetch_text : List ℕ → ℕ → ℕ → ℕ → List ℕ
 fetch_text m planned kept attempts = fetched_text (codes "fetch") m planned kept attempts
 
--- A settle: how many sync Interests were sent, and how many parts came to be held.
+-- A settle: how many sync Interests were sent, and how many parts became held.
 abbrev pub settle_text : ℕ → ℕ → List ℕ
 settle_text syncs kept = line (codes "settle")
     (codes "syncs" ∷ decimal syncs ∷ codes "kept" ∷ decimal kept ∷ [])
@@ -102,7 +102,7 @@ feed_kept_text m f = line (codes "feed") (m ∷ decimal f ∷ codes "kept" ∷ [
 abbrev pub feed_refused_text : List ℕ → ℕ → List ℕ → List ℕ
 feed_refused_text m f refusal = line (codes "feed") (m ∷ decimal f ∷ codes "refused" ∷ refusal ∷ [])
 
--- ---- octets handed in and out
+-- ---- octets that are printed, and octets from outside
 
 -- The packet that a member holds of a part.
 abbrev pub dump_hex_text : List ℕ → List ℕ → List ℕ
@@ -252,7 +252,7 @@ journal_text m count = line (codes "journal") (m ∷ decimal count ∷ [])
 abbrev pub journal_publish_text : ℕ → List ℕ
 journal_publish_text seq = line (codes "publish") (decimal seq ∷ [])
 
--- Octets were heard, and what came of it.
+-- Octets were heard, with this result.
 abbrev pub journal_hear_text : List ℕ → List ℕ → List ℕ
 journal_hear_text octets how = line (codes "hear") (encode_lower octets ∷ how ∷ [])
 

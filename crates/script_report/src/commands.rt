@@ -114,7 +114,7 @@ pub fn put_block_200(out: &mut Vec<u8>, m: &str) -> Result<(), AllocError>
     put_line(out, "block", &[Word(m), Word("200")])
 }
 
-/// The block was the last: the object is published under `seq`, and reported by the `sync`th sync
+/// The block was the last: the object is published under `seq`, and announced by the `sync`th sync
 /// Interest.
 pub fn put_block_published(
     out: &mut Vec<u8>,

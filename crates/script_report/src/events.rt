@@ -63,7 +63,7 @@ pub fn put_deliver_steady(out: &mut Vec<u8>, k: u64, m: &str) -> Result<(), Allo
     put_line(out, "deliver", &[Number(k), Word(m), Word("steady")])
 }
 
-/// A member that heard the `k`th sync Interest holds back.
+/// A member that heard the `k`th sync Interest is suppressed.
 pub fn put_deliver_suppressed(out: &mut Vec<u8>, k: u64, m: &str) -> Result<(), AllocError>
     ensures { Appends (deliver_suppressed_text k m.now) out.old.items out.new.items result }
 {

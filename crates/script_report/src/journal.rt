@@ -28,7 +28,7 @@ pub fn put_journal_hear_steady(out: &mut Vec<u8>, octets: &[u8]) -> Result<(), A
     put_hear(out, octets, "steady")
 }
 
-/// The member heard a sync Interest, and holds back.
+/// The member heard a sync Interest, and is suppressed.
 pub fn put_journal_hear_suppressed(out: &mut Vec<u8>, octets: &[u8]) -> Result<(), AllocError>
     ensures { Appends (journal_hear_text octets.now (codes "suppressed")) out.old.items out.new.items result }
 {
@@ -42,7 +42,7 @@ pub fn put_journal_hear_refused(out: &mut Vec<u8>, octets: &[u8]) -> Result<(), 
     put_hear(out, octets, "refused")
 }
 
-// Octets that were heard, and what came of it.
+// Octets that were heard, with their result.
 fn put_hear<'a>(out: &mut Vec<u8>, octets: &'a [u8], how: &'a str) -> Result<(), AllocError>
     ensures { Appends (journal_hear_text octets.now how.now) out.old.items out.new.items result }
 {

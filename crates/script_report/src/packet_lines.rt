@@ -27,7 +27,7 @@ pub fn put_hear_steady(out: &mut Vec<u8>, m: &str) -> Result<(), AllocError>
     put_line(out, "hear", &[Word(m), Word("steady")])
 }
 
-/// A member that heard octets holds back.
+/// A member that heard octets is suppressed.
 pub fn put_hear_suppressed(out: &mut Vec<u8>, m: &str) -> Result<(), AllocError>
     ensures { Appends (hear_suppressed_text m.now) out.old.items out.new.items result }
 {

@@ -98,7 +98,7 @@ pub fn put_fetch(
     put_fetched(out, "fetch", m, planned, kept, attempts)
 }
 
-// What a fetch of a member or a mirror came to.
+// The result of a fetch of a member or a mirror.
 pub(crate) fn put_fetched(
     out: &mut Vec<u8>,
     verb: &str,

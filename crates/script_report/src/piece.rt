@@ -67,7 +67,7 @@ fn put_hex(out: &mut Vec<u8>, octets: &[u8]) -> Result<(), AllocError>
     let digits = octets.len().checked_mul(2).ok_or(AllocError)?;
     let after = before.checked_add(digits).ok_or(AllocError)?;
     out.resize(after, b'0')?;
-    // There is room for just these digits, so none is refused.
+    // There is capacity for just these digits, so none is refused.
     let _ = hex::encode_to_slice(octets, &mut out[before..]);
     Ok(())
 }

@@ -38,7 +38,7 @@ pub enum Refusal {
 }
 
 impl Refusal {
-    /// The number of the refusal in the line that tells it, and beside an exit status. No refusal has number 13.
+    /// The number of the refusal in the line that reports it, and beside an exit status. No refusal has number 13.
     pub fn number(self) -> u32
         ensures { result ≡ refusal_number self }
     {

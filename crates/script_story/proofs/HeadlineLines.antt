@@ -1,4 +1,4 @@
--- The lines that a story is defined by.
+-- The lines that a run is defined by.
 use Rattle.std.proofs.Common.{◌≡◌, ◌∙◌, ℕ, ◌+◌, Bool, nat_le, true, false, List, [], ◌∷◌, ◌++◌, length, append_assoc}
 use Rattle.std.proofs.Common.{refl, sym, ap, subst, arith, if◌then◌else◌}
 use Rattle.std.specs.List.{concat}
@@ -54,7 +54,7 @@ next_is_judged env r line h = go (is_within_script r line) h where
   go true k = by_room (evaluated env r.state line) refl k
   go false k = cc
 
--- ---- stories
+-- ---- runs
 
 more : (env : RunEnvironment) (r : Reached) (line report : List ℕ) (next : State) (others : List (List ℕ))
     (s : ScriptRun)

@@ -1,4 +1,4 @@
--- What `mcatalogue` lines print over whole stories.
+-- What `mcatalogue` lines print over whole runs.
 use Rattle.std.proofs.Common.{◌≡◌, ◌∙◌, ℕ, zero, suc, ◌<◌, true, List, [], ◌∷◌, ◌++◌, length, map, filter, Some, refl}
 use Rattle.std.proofs.Common.{sym, ap, subst, arith}
 use Rattle.std.proofs.lemmas.List.{length-map}

@@ -1,4 +1,4 @@
--- What watchers are given over whole stories.
+-- What watchers are given over whole runs.
 use Rattle.std.proofs.Common.{◌≡◌, ◌∙◌, ℕ, ◌<◌, Bool, true, false, ◌||◌, cond, List, [], ◌∷◌, ◌++◌, length, map, Option}
 use Rattle.std.proofs.Common.{Some, refl, sym, ap, subst, arith, get_or-set_same}
 use Rattle.std.specs.Prelude.{is_some}

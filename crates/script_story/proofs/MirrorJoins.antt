@@ -1,4 +1,4 @@
--- A mirror that has settled lists just what its pattern is for of the join of all publications, where no member hides
+-- A mirror that has settled lists just what its pattern accepts of the join of all publications, where no member hides
 -- anything.
 use Rattle.std.proofs.Common.{◌≡◌, ◌∙◌, inl, inr, ℕ, ◌≤◌, ◌<◌, Bool, true, false, not, ◌&&◌, ◌||◌, nat_le, List}
 use Rattle.std.proofs.Common.{length, map, get_or, refl, sym, ap, subst, arith}

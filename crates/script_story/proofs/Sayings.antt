@@ -1,4 +1,4 @@
--- Each line is judged, and only those that the grammar refuses are reported as Syntax.
+-- Each line is evaluated, and only those that the grammar refuses are reported as Syntax.
 use Rattle.std.proofs.Common.{◌≡◌, ◌∙◌, ◌⊎◌, inl, inr, ℕ, Bool, true, false, nat_le, List, [], ◌∷◌, length, Option}
 use Rattle.std.proofs.Common.{Some, None, Result, Ok, Err, refl, sym, ap, subst, if◌then◌else◌}
 use Rattle.std.specs.Prelude.{◌≢◌, IfErr, is_some}
@@ -95,7 +95,7 @@ typed_of (kind ∷ kinds) (value ∷ values) of = absurd of.0
 
 -- ---- what a line that is read comes to
 
--- It is judged, and not reported as Syntax.
+-- It is evaluated, and not reported as Syntax.
 abbrev IsBeyondGrammar : Verdict → Type 0
 IsBeyondGrammar (refused refusal.Syntax) = ⊥
 IsBeyondGrammar (refused why) = Unit {0}

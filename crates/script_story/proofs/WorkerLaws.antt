@@ -1,4 +1,4 @@
--- The number of workers makes no difference to a story.
+-- The number of workers makes no difference to a run.
 use Rattle.std.proofs.Common.{◌≡◌, ◌∙◌, ℕ, ◌+◌, ◌≤◌, Bool, true, nat_le, nat_lt, ◌&&◌, List, [], ◌∷◌, length}
 use Rattle.std.proofs.Common.{length-append, Option, Some, None, Result, Ok, Err, refl, sym, ap, arith}
 use Rattle.std.proofs.Common.{if◌then◌else◌}
@@ -44,7 +44,7 @@ unfolding evaluated
 judged_alike env s a b same =
     read_alike env s (line_of a) ∙ ap (read env s) same ∙ sym (read_alike env s (line_of b))
 
--- ---- stories
+-- ---- runs
 
 abbrev reached_at : (lines octets printed : ℕ) → State → Reached
 reached_at n octets m s = record { lines = n; octets = octets; printed = m; state = s }
@@ -85,7 +85,7 @@ module _ (env : RunEnvironment) where
       (ap (within_report (reached_at n o m s)) (judged_alike env s a b same)
       ∙ within_alike n m s o u (evaluated env s b))
 
-  -- After lines that differ in workers alone the same is reached, but for how many octets were taken.
+  -- After lines that differ in workers alone the same is reached, except how many octets were taken.
   runs_alike : (a b : List (List ℕ)) (n m : ℕ) (s : State) (o u : ℕ)
       → o + length (concat a) ≤ 16777216 → u + length (concat b) ≤ 16777216 → DifferInWorkers a b
       → run_from env (reached_at n o m s) a ≡ run_from env (reached_at n u m s) b

@@ -40,7 +40,7 @@ pub record RunEnvironment : Type 0 where
 abbrev pub env_by : (ℕ → ℕ → ℕ) → (ℕ → ℕ → ℕ → ℕ → ℕ → ℕ → Bool) → RunEnvironment
 env_by draw passes = record { draw = draw; passes = passes }
 
--- What the lines so far came to: what they declared, the names and keys of the group, the group itself once there was
+-- The state after the lines so far: what they declared, names and keys of the group, the group itself once there was
 -- an event, the watchers of each member, and the mirrors. No event of the group changes watchers, and a settle alone
 -- changes mirrors.
 pub record State : Type 0 where
@@ -58,7 +58,7 @@ no_group = record { name = []; members = no_nodes; clients = no_nodes }
 abbrev pub initial_state : State
 initial_state = record { declared = nothing_declared; keys = no_group; world = None; watchers = []; mirrors = [] }
 
--- What a line comes to: it is refused; it brings what no member made; or it has a report, and others may follow. What
+-- The verdict on a line: it is refused; it brings what no member made; or it has a report, and others may follow. What
 -- is left is that no row here is for it: there is no such line.
 pub data Verdict : Type 0 where
   refused : Refusal → Verdict
@@ -94,7 +94,7 @@ abbrev pub mirrors_after : World → EventValue → List Mirroring → List Mirr
 mirrors_after w (EventValue.Settle workers) mirrors = map (mirror_settles w) mirrors
 mirrors_after w e mirrors = mirrors
 
--- An event that is taken is a step of the group, and its report is what is reported of it.
+-- An event that is taken is a step of the group, and its report is that of its outcome.
 abbrev pub stepped : Environment → State → Declared → World → EventValue → Option group.Refusal → Verdict
 stepped out s d w e (Some why) = event_refused why
 stepped out s d w e None = accepted (report_text (map party_label d.members) (event_report s.keys out w e)) (record {
@@ -338,7 +338,7 @@ evaluated env s octets = read env s (line_of octets)
 abbrev pub EachLineIsEvaluated : Type 0
 EachLineIsEvaluated = (env : RunEnvironment) (s : State) (octets : List ℕ) → evaluated env s octets ≢ not_evaluated
 
--- Syntax is reported of a line exactly where the grammar refuses it.
+-- A line is refused as Syntax exactly where the grammar refuses it.
 abbrev pub SyntaxIsOfTheGrammar : Type 0
 SyntaxIsOfTheGrammar = (env : RunEnvironment) (s : State) (octets : List ℕ)
     → (evaluated env s octets ≡ refused refusal.Syntax) ↔ (line_of octets ≡ Err line_fault.Syntax)

@@ -1,4 +1,4 @@
--- What the report of a script says of its group. A story is defined by the lines that are taken, each with its own
+-- What the report of a script says of its group. A run is defined by the lines that are taken, each with its own
 -- report. What stands in the report of a `catalogue` line is said in the words of the group that the lines before it
 -- reach: its members, what they published, hold and have deleted.
 use Rattle.std.specs.Prelude.{ℕ, ◌+◌, ◌≡◌, ◌≤◌, ◌<◌, ◌⊎◌, ◌↔◌, Bool, true, false, not, List, [], ◌∷◌, ◌++◌, map, length}
@@ -51,7 +51,7 @@ LinesAreTaken env r lines reports last = ⊥
 abbrev pub AreTakenFirst : RunEnvironment → List (List ℕ) → List (List ℕ) → Reached → Type 0
 AreTakenFirst env lines reports last = LinesAreTaken env nothing_reached lines reports last
 
--- One line amid those that are taken: what was reached and reported before it, and what comes after it.
+-- One line amid those that are taken: what was reached and reported before it, and what follows it.
 pub record IsTakenAmid (env : RunEnvironment) (r : Reached) (before : List (List ℕ)) (line : List ℕ)
     (others reports : List (List ℕ)) (last : Reached) : Type 0 where
   pub here : Reached
@@ -64,9 +64,9 @@ pub record IsTakenAmid (env : RunEnvironment) (r : Reached) (before : List (List
   pub it : LineIsTaken env here line report new
   pub after_it : LinesAreTaken env new others later last
 
--- ---- stories
+-- ---- runs
 
--- How a story ends after a line of this number that comes to this: a taken line ends none, and each line is judged.
+-- How a run ends after a line of this number with this verdict: an accepted line ends none, and each line is evaluated.
 abbrev pub EndsBy : ℕ → Verdict → List ℕ → Ending → Type 0
 EndsBy number (accepted report next) text ending = ⊥
 EndsBy number (verdict.refused why) text ending =
@@ -80,7 +80,7 @@ abbrev pub EndsWith : RunEnvironment → Reached → List (List ℕ) → List �
 EndsWith env r [] text ending = (text ≡ []) × (ending ≡ Done)
 EndsWith env r (line ∷ others) text ending = EndsBy (r.lines + 1) (evaluated_next env r line) text ending
 
--- A story, by its lines: the first ones are taken, and the text is their reports and what is written of the next
+-- A run, by its lines: the first ones are taken, and the text is their reports and what is written of the next
 -- line, which is refused or foreign. The names, keys, world and mirrors are those after the last line that is taken.
 pub record IsReportOf (env : RunEnvironment) (r : Reached) (script : List (List ℕ)) (s : ScriptRun) : Type 0 where
   pub first : List (List ℕ)
@@ -131,7 +131,7 @@ abbrev pub HoldsAllOf : World → ℕ → Pair → Type 0
 HoldsAllOf w m pair = (x : ℕ) → x ≤ count (logs w) pair → member_holds (member w m) (part_of pair x) ≡ true
 
 -- What a member's catalogue is to list: an object that was published, that the member hasn't deleted, that it published
--- itself or wholly holds, and of whose withdrawals it holds no record.
+-- itself or holds whole, and of whose withdrawals it holds no record.
 pub record IsToBeListed (w : World) (m : ℕ) (pair : Pair) : Type 0 where
   pub published : IsPublished (logs w) pair
   pub object : is_some (offered (post_at (logs w) pair)) ≡ true
@@ -214,7 +214,7 @@ deletes_nothing (Err fault) = true
 
 -- ---- what is promised
 
--- Where the first lines of a script are taken, its story begins with their reports.
+-- Where the first lines of a script are taken, its run begins with their reports.
 abbrev pub BeginsWithReports : Type 0
 BeginsWithReports = (env : RunEnvironment) (first others reports : List (List ℕ)) (r : Reached)
     → AreTakenFirst env first reports r
@@ -238,7 +238,7 @@ abbrev pub ReportChangesNothing : Type 0
 ReportChangesNothing = (env : RunEnvironment) (r : Reached) (line report : List ℕ) (new : Reached)
     → LineIsTaken env r line report new → changes_nothing (line_of line) ≡ true → IsSameGroup env r new
 
--- A `catalogue` line prints exactly the objects that the member published or wholly holds, undeleted and not known
+-- A `catalogue` line prints exactly the objects that the member published or holds whole, undeleted and not known
 -- withdrawn.
 abbrev pub PrintsCatalogues : Type 0
 PrintsCatalogues = (env : RunEnvironment) (lines reports : List (List ℕ)) (r : Reached)
@@ -263,13 +263,13 @@ pub record IsJoined (env : RunEnvironment) (r : Reached) : Type 0 where
       → (label report : List ℕ) (new : Reached) → IsCatalogueLine env later label report new
       → report ≡ printed_entries (labels_at r) label (join_of (logs (group_at env r)))
 
--- So it is right after a `settle` line, where nothing is hidden.
+-- So it is right after a `settle` line, where nothing is deleted.
 abbrev pub SettlesJoin : Type 0
 SettlesJoin = (env : RunEnvironment) (lines reports : List (List ℕ)) (r : Reached) → AreTakenFirst env lines reports r
     → (report : List ℕ) (new : Reached) → IsSettleLine env r report new → NothingDeleted (group_at env new)
     → IsJoined env new
 
--- Nothing is hidden where no line can have deleted anything.
+-- Nothing is deleted where no line can have deleted anything.
 abbrev pub HidesByDeletionAlone : Type 0
 HidesByDeletionAlone = (env : RunEnvironment) (lines reports : List (List ℕ)) (r : Reached)
     → AreTakenFirst env lines reports r → list_all (λ line. deletes_nothing (line_of line)) lines ≡ true

@@ -1,4 +1,4 @@
--- What the members of a script hold: packets that pass their checks, and entries that tell what is in them.
+-- What the members of a script hold: packets that pass their checks, and entries that say what is in them.
 use Rattle.std.specs.Prelude.{ℕ, ◌≡◌, ◌+◌, ◌<◌, true, List, map, length, Option, Some, None, IsOk, if◌then◌else◌}
 use Rattle.std.specs.List.{All, concat}
 use Rattle.std.specs.Option.{option_and_then}
@@ -40,7 +40,7 @@ MembersHoldChecked = (env : RunEnvironment) (lines reports : List (List ℕ)) (r
     → AreTakenFirst env lines reports r
     → (m : ℕ) → m < length (group_at env r).members → HoldsChecked r.state.keys (group_at env r) m
 
--- ---- what entries tell
+-- ---- what entries say
 
 -- The packet of a part, where the member holds it. A `dump` line shows it.
 abbrev pub dumped : GroupKeys → World → ℕ → Part → Option (List ℕ)
@@ -58,7 +58,7 @@ dumped_contents g w m pair segments =
 abbrev pub all_there : List (List ℕ) → List (Option (List ℕ))
 all_there contents = map (λ content. Some content) contents
 
--- An entry tells what the dumped segments have: each of them is there, and their contents joined have so many octets
+-- An entry says what the dumped segments have: each of them is there, and their contents joined have so many octets
 -- and this digest.
 pub record ReportsOfDumped (g : GroupKeys) (w : World) (m : ℕ) (e : Entry) : Type 0 where
   pub contents : List (List ℕ)

@@ -41,7 +41,7 @@ pub record IsLeftOfJoin (before after : World) (m : ℕ) (pair : Pair) : Type 0 
   pub held : IsHeldAmong before pair
   pub undeleted : has_deleted (member after m) pair ≡ false
 
--- That is what each member lists too: no withdrawal is ever deleted, so each of them comes to all in a settle.
+-- That is what each member lists too: no withdrawal is ever deleted, so each of them reaches all in a settle.
 abbrev pub SettledListWhatIsLeft : Type 0
 SettledListWhatIsLeft = (env : RunEnvironment) (lines reports : List (List ℕ)) (r : Reached)
     → AreTakenFirst env lines reports r → (report : List ℕ) (new : Reached) → IsSettleLine env r report new
@@ -61,7 +61,7 @@ ListedStay = (env : RunEnvironment) (before printed : List (List ℕ)) (r : Reac
     → lists pair (catalogue_at (group_at env r) m) ≡ true
     → StaysListed (group_at env r) (group_at env last) m pair
 
--- ---- where all are told of all
+-- ---- where all are informed of all
 
 -- One of these lines delivers to a member, by its label, a sync Interest that reports all that another publishes in
 -- them: in the place of that one its vector has the number of the last publication.
@@ -78,7 +78,7 @@ pub record IsInformedOfAll (env : RunEnvironment) (lines : List (List ℕ)) (las
   pub tells : slice_index (sent_at (group_at env here) sync).vector p ≡ last_of (logs (group_at env last)) p
 
 -- Where each member is informed of all that each other has published, if it has published at all, and nothing is wanted
--- or hidden in the end, each catalogue is the join of all publications, and is printed so, with no settle.
+-- or deleted in the end, each catalogue is the join of all publications, and is printed so, with no settle.
 abbrev pub InformedMembersJoin : Type 0
 InformedMembersJoin = (env : RunEnvironment) (lines reports : List (List ℕ)) (r : Reached)
     → AreTakenFirst env lines reports r

@@ -1,4 +1,4 @@
--- What `mcatalogue` lines print, over whole stories.
+-- What `mcatalogue` lines print, over whole runs.
 use Rattle.std.specs.Prelude.{ℕ, ◌≡◌, ◌<◌, Bool, true, false, List, [], ◌∷◌, ◌++◌, length, filter, slice_get, Option}
 use Rattle.std.specs.Prelude.{Some, None, Result, Ok, Err}
 use Rattle.std.specs.List.{list_all}
@@ -32,7 +32,7 @@ pub record ListsOfMirror (r : Reached) (label report : List ℕ) (entries : Mirr
   pub named : slice_get r.state.declared.mirrors number ≡ Some label
   pub text : report ≡ listing_text (labels_at r) label (entries (mirror_of r.state.mirrors number))
 
--- An `mcatalogue` line prints exactly the objects that the mirror's pattern is for and of which it holds every part,
+-- An `mcatalogue` line prints exactly the objects that the mirror's pattern accepts and of which it holds every part,
 -- and no withdrawal.
 abbrev pub MirrorsAreListed : Type 0
 MirrorsAreListed = (env : RunEnvironment) (lines reports : List (List ℕ)) (r : Reached)
@@ -52,8 +52,8 @@ shows_alone (Ok None) = true
 shows_alone (Ok (Some stated)) = only_shows stated.verb
 shows_alone (Err fault) = false
 
--- After a `settle` line, where nothing is hidden and the lines between change nothing of group and mirrors, these are
--- just the objects of the join of all publications that the mirror's pattern is for.
+-- After a `settle` line, where nothing is deleted and the lines between change nothing of group and mirrors, these are
+-- just the objects of the join of all publications that the mirror's pattern accepts.
 abbrev pub MirrorsListTheirJoin : Type 0
 MirrorsListTheirJoin = (env : RunEnvironment) (before : List (List ℕ)) (settle : List ℕ) (workers : ℕ)
     (between reports : List (List ℕ)) (r : Reached) → AreTakenFirst env (before ++ settle ∷ between) reports r

@@ -27,7 +27,7 @@ pub record Mirroring : Type 0 where
   pub pattern : Pattern
   pub known : List ℕ  -- its vector: one number a member
   pub holds : Part → Bool
-  pub tries : Part → ℕ  -- how often it tried each part, but for records of objects that its pattern isn't for
+  pub tries : Part → ℕ  -- how often it tried each part, except records of objects that its pattern doesn't accept
 
 -- A mirror of a group of so many members, which knows of nothing.
 abbrev pub mirror_begins : ℕ → Pattern → Mirroring
@@ -57,7 +57,7 @@ mirror_of mirrors i = slice_index_or mirrors i no_mirroring
 
 -- ---- what it wants
 
--- A part besides the record, which a held part lists, of an object that the pattern is for.
+-- A part besides the record, which a held part lists, of an object that the pattern accepts.
 abbrev pub is_asked_for : Logs → Mirroring → Part → Bool
 is_asked_for ls m t = m.holds (parent (shape_at ls (pair_of t)) t) && is_for m.pattern ls (pair_of t)
 
@@ -98,13 +98,13 @@ module _ (passes : ℕ → ℕ → ℕ → ℕ → ℕ → ℕ → Bool) (w : Wo
   abbrev pub attempts_made : Mirroring → ℕ
   attempts_made m = sum_by (attempts_for m) (asked_by w m)
 
-  -- The parts whose attempts count from then on: all but the records that came of objects that its pattern isn't for,
+  -- The parts whose attempts count from then on: all but the records of objects that its pattern doesn't accept,
   -- which it never asks for again.
   abbrev pub counted : Mirroring → List Part
   counted m =
       filter (λ t. is_for m.pattern (logs w) (pair_of t) || not (is_some (attempt_of m t))) (asked_by w m)
 
-  -- What came is held too.
+  -- What was fetched is held too.
   abbrev pub mirror_fetches : Mirroring → Mirroring
   mirror_fetches m = record m {
     holds = λ t. contains part_cmp (gets m) t || m.holds t;
@@ -114,7 +114,7 @@ module _ (passes : ℕ → ℕ → ℕ → ℕ → ℕ → ℕ → Bool) (w : Wo
 -- ---- what it gains in a settle
 
 -- A part that some member holds, of a publication that the mirror or a member knows of, and of a publisher that is
--- asked: the record, or a part of an object that the pattern is for.
+-- asked: the record, or a part of an object that the pattern accepts.
 abbrev pub is_gained : World → Mirroring → Part → Bool
 is_gained w m t =
     nat_le t.seq (slice_index (join m.known (settled_vector w)) t.publisher)
@@ -133,7 +133,7 @@ abbrev pub is_withdrawn_to : List Publication → Mirroring → Pair → Bool
 is_withdrawn_to publications m pair =
     list_any (λ q. withdraws pair q && m.holds (part_of (pair_in q) 0)) publications
 
--- An object that the pattern is for, every part of which is held, and no withdrawal of it.
+-- An object that the pattern accepts, every part of which is held, and no withdrawal of it.
 abbrev pub is_listed_by : List Publication → Mirroring → Publication → Bool
 is_listed_by publications m p =
     is_object_accepted m.pattern p

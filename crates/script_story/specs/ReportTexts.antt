@@ -1,4 +1,4 @@
--- The line of a report for what is reported of an event, under the labels of the members.
+-- The line of a report for the outcome of an event, under the labels of the members.
 use Rattle.std.specs.Prelude.{ℕ, Bool, true, false, if◌then◌else◌, List, [], map, length, codes, Option, Some, None}
 use Rattle.std.specs.List.{filter}
 use Rattle.repo_catalog.specs.declared.entry.Entry.{Entry}

@@ -1,4 +1,4 @@
--- The story of a script: the text of its report, its end, and the group after its last line.
+-- The run of a script: the text of its report, its end, and the group after its last line.
 use Rattle.std.specs.Prelude.{◌≡◌, ℕ, ◌+◌, Bool, ◌&&◌, List, [], ◌∷◌, ◌++◌, length, Option, None, nat_lt, nat_le}
 use Rattle.std.specs.Prelude.{if◌then◌else◌}
 use Rattle.script_lang.specs.Limits.{script_lines, script_octets}
@@ -18,7 +18,7 @@ use Rattle.script_story.specs.Evaluation.{foreign}
 use Rattle.script_story.specs.Evaluation.{not_evaluated}
 use Rattle.script_story.specs.Evaluation as verdict
 
--- ---- what the lines so far came to
+-- ---- the state after the lines so far
 
 -- How many lines and octets were taken, how many octets their reports have, and what they declared and did.
 pub record Reached : Type 0 where
@@ -70,16 +70,16 @@ pub record ScriptRun : Type 0 where
   pub world : Option World
   pub mirrors : List Mirroring
 
--- A text, and then a story.
+-- A text, and then a run.
 abbrev pub after_text : List ℕ → ScriptRun → ScriptRun
 after_text text s = record s { text = text ++ s.text }
 
--- A story that ends here, with this text.
+-- A run that ends here, with this text.
 abbrev pub ended : State → List ℕ → Ending → ScriptRun
 ended s text ending =
     record { text = text; ending = ending; keys = s.keys; world = s.world; mirrors = s.mirrors }
 
--- The story of a line and of those after it. A line that is refused or foreign ends it. One that no row judges would
+-- The run of a line and of those after it. A line that is refused or foreign ends it. One that no row evaluates would
 -- end it as refused under 0, which is the number of no refusal.
 abbrev pub run_of_line : (Reached → ScriptRun) → Reached → List ℕ → Verdict → ScriptRun
 run_of_line others r line (accepted report next) = after_text report (others (reached_after r line report next))
@@ -88,17 +88,17 @@ run_of_line others r line (verdict.refused why) =
 run_of_line others r line foreign = ended r.state (foreign_text (r.lines + 1)) (Foreign (r.lines + 1))
 run_of_line others r line not_evaluated = ended r.state [] (Refused (r.lines + 1) 0)
 
--- The story of lines that follow those so far.
+-- The run of lines that follow those so far.
 unfoldable pub run_from : RunEnvironment → Reached → List (List ℕ) → ScriptRun
 run_from env r [] = ended r.state [] Done
 run_from env r (line ∷ others) =
     run_of_line (λ next. run_from env next others) r line (evaluated_next env r line)
 
--- The story of an input.
+-- The run of an input.
 abbrev pub run_of : RunEnvironment → List ℕ → ScriptRun
 run_of env input = run_from env nothing_reached (lines input)
 
--- The story of what is no script: there is no group in it.
+-- The run of what is no script: there is no group in it.
 abbrev pub plain_run : List ℕ → Ending → ScriptRun
 plain_run text ending = record { text = text; ending = ending; keys = no_group; world = None; mirrors = [] }
 

@@ -16,7 +16,7 @@ use Rattle.script_story.specs.Headline.{labels_at}
 use Rattle.script_story.specs.HeldPackets.{HoldsChecked}
 
 -- A text shows the catalogue of the member with this label, as it is after these lines: first come their reports, then
--- that catalogue, and then the rest. It lists exactly the objects that the member published or wholly holds, undeleted
+-- that catalogue, and then the rest. It lists exactly the objects that the member published or holds whole, undeleted
 -- and not known withdrawn, and what the member holds passed its checks.
 pub record ShowsCatalogue (env : RunEnvironment) (before : List (List ℕ)) (label text : List ℕ) : Type 0 where
   pub here : Reached
@@ -34,7 +34,7 @@ pub record ShowsJoin (env : RunEnvironment) (before : List (List ℕ)) (label te
   pub joined : catalogue_at (group_at env catalogue.here) catalogue.shown.number
       ≡ join_of (logs (group_at env catalogue.here))
 
--- Where the story of an input is done and one of its lines says `catalogue` and a label, the text shows that member's
+-- Where the run of an input is done and one of its lines says `catalogue` and a label, the text shows that member's
 -- catalogue there.
 abbrev pub CatalogueLinesShow : Type 0
 CatalogueLinesShow = (env : RunEnvironment) (input : List ℕ) (before : List (List ℕ)) (line : List ℕ)

@@ -1,4 +1,4 @@
--- What watchers are given over whole stories.
+-- What watchers are given over whole runs.
 use Rattle.std.specs.Prelude.{ℕ, ◌≡◌, ◌<◌, true, false, List, [], ◌∷◌, ◌++◌, length, Some}
 use Rattle.std.specs.List.{filter, list_all}
 use Rattle.repo_plan.specs.Parts.{Pair}

@@ -26,11 +26,11 @@ but_for_workers (Ok (Some line)) = Ok (Some (statement line.verb (with_one_worke
 but_for_workers (Ok None) = Ok None
 but_for_workers (Err fault) = Err fault
 
--- Line by line two scripts are read as the same, but for the workers of their `fetch`, `mfetch` and `settle` lines.
+-- Line by line two scripts are read as the same, except the numbers of workers in `fetch`, `mfetch` and `settle` lines.
 abbrev pub DifferInWorkers : List (List ℕ) → List (List ℕ) → Type 0
 DifferInWorkers a b = map (λ line. but_for_workers (line_of line)) a ≡ map (λ line. but_for_workers (line_of line)) b
 
--- Two inputs that differ in nothing else, and have no more octets than a script may have, have the same story: the same
+-- Two inputs that differ in nothing else, and have no more octets than a script may have, have the same run: the same
 -- text, end and group.
 abbrev pub WorkersMakeNoDifference : Type 0
 WorkersMakeNoDifference = (env : RunEnvironment) (a b : List ℕ) → length a ≤ script_octets → length b ≤ script_octets

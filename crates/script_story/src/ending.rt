@@ -3,7 +3,7 @@ ghost use Rattle.script_story.specs.Answers.{status_of};
 
 use repo_io::Status;
 
-/// How a story ends.
+/// How a run ends.
 #[derive(Clone, Copy, Debug, PartialEq, Eq)]
 pub enum Ending {
     /// Every line was taken.

@@ -15,9 +15,9 @@ ghost use Rattle.script_story.specs.MirrorLaws.{MirrorsAreListed, MirrorsListThe
 ghost use Rattle.script_story.specs.Watchers.{SettledAreAnnounced, NewsIsAnnouncedWhole, NewsIsAnnouncedOnce};
 ghost use Rattle.script_story.specs.Workers.{WorkersMakeNoDifference};
 
-/// The story of an input is known by its lines: the first of them are taken one after the other, their reports are its
+/// The run of an input is known by its lines: the first of them are taken one after the other, their reports are its
 /// text, and the next line, if there is one, is refused or foreign. Each line that is taken has its report at its
-/// place. However the script goes on after lines that are taken, its story begins with their reports.
+/// place. However the script goes on after lines that are taken, its run begins with their reports.
 pub fn runs_are_their_lines()
     ensures printed { (env : RunEnvironment) (input : List ℕ)
         → IsReportOf env nothing_reached (lines input) (run_of env input) }
@@ -33,7 +33,7 @@ pub fn lines_reach_sound_groups()
     ensures unchanged { ReportChangesNothing }
 {}
 
-/// In every story a printed catalogue lists exactly the objects that the member published or wholly holds, undeleted
+/// In every run a printed catalogue lists exactly the objects that the member published or holds whole, undeleted
 /// and not known withdrawn, each once under its publisher and number, in order, with what it says of the object. Until
 /// a line changes something the same is printed.
 pub fn printed_catalogues_list_what_is_held()
@@ -41,7 +41,7 @@ pub fn printed_catalogues_list_what_is_held()
     ensures later { PrintsLater }
 {}
 
-/// In every story each number of a member that a report is made of is that of a member that a line declared, whose
+/// In every run each number of a member that a report is made of is that of a member that a line declared, whose
 /// label is printed.
 pub fn printed_labels_are_declared()
     ensures reports { ReportsNameOnlyMembers }
@@ -64,7 +64,7 @@ pub fn settled_catalogues_list_what_was_held()
     ensures left { SettledListWhatIsLeft }
 {}
 
-/// In every story what a member lists it lists from then on, with the same object, until it deletes it or holds the
+/// In every run what a member lists it lists from then on, with the same object, until it deletes it or holds the
 /// record of a withdrawal of it.
 pub fn listed_objects_stay_listed()
     ensures { ListedStay }
@@ -77,22 +77,22 @@ pub fn informed_members_join_without_a_settle()
     ensures { InformedMembersJoin }
 {}
 
-/// In every story the packet of each part that a member holds passes for the want of that part: by its name, its
+/// In every run the packet of each part that a member holds passes for the want of that part: by its name, its
 /// publisher's key and signature, and for every part but a record its digest, which stands at its place in the
 /// publication's record or in the index packet that lists it.
 pub fn held_parts_passed_their_checks()
     ensures { MembersHoldChecked }
 {}
 
-/// In every story each entry of a catalogue tells what the dumped segments of its publication have: their contents,
+/// In every run each entry of a catalogue tells what the dumped segments of its publication have: their contents,
 /// joined, have the entry's number of octets, and their SHA-256 is its digest. After the record, which is part 0, come
 /// the index packets, one for each 200 segments where there are more than 200, and then the segments.
 pub fn entries_tell_what_dumps_show()
     ensures { EntriesTellOfDumped }
 {}
 
-/// Where the story of an input is done and one of its lines says `catalogue` and a label, the text is the reports of
-/// the lines before it, then the entries of exactly the objects that the member published or wholly fetched and
+/// Where the run of an input is done and one of its lines says `catalogue` and a label, the text is the reports of
+/// the lines before it, then the entries of exactly the objects that the member published or fetched whole and
 /// checked, undeleted and not known withdrawn, then the rest. Right after a `settle` line, where nothing was deleted,
 /// these are all objects that were published and not withdrawn.
 pub fn catalogue_lines_show_what_is_held()
@@ -100,13 +100,13 @@ pub fn catalogue_lines_show_what_is_held()
     ensures settled { SettleLinesShow }
 {}
 
-/// In every story no two `told` lines of a watcher report one publication, whatever lines stand between them: also
+/// In every run no two `told` lines of a watcher report one publication, whatever lines stand between them: also
 /// restarts, deletions and withdrawals.
 pub fn news_is_announced_once()
     ensures { NewsIsAnnouncedOnce }
 {}
 
-/// In every story a `told` line leaves nothing untold of what the member lists and the watcher asks for, and it stays
+/// In every run a `told` line leaves nothing untold of what the member lists and the watcher asks for, and it stays
 /// reported. Right after a `settle` line, where no line was taken that can delete, that is everything that the watcher
 /// asks for in the join of all publications, less what was withdrawn.
 pub fn news_is_announced_whole()
@@ -114,15 +114,15 @@ pub fn news_is_announced_whole()
     ensures settled { SettledAreAnnounced }
 {}
 
-/// Two inputs that are read as the same lines, but for how many workers their `fetch`, `mfetch` and `settle` lines ask
-/// for, have the same story, where neither has more octets than a script may have.
+/// Two inputs that are read as the same lines, except how many workers their `fetch`, `mfetch` and `settle` lines ask
+/// for, have the same run, where neither has more octets than a script may have.
 pub fn workers_make_no_difference()
     ensures { WorkersMakeNoDifference }
 {}
 
-/// An `mcatalogue` line prints exactly the objects that the mirror's pattern is for, of which it holds every part and
-/// no withdrawal. After a `settle` line, where nothing is hidden and the lines between change nothing of group and
-/// mirrors, that is what its pattern is for of the join of all publications. Nothing is hidden where no line was taken
+/// An `mcatalogue` line prints exactly the objects that the mirror's pattern accepts, of which it holds every part and
+/// no withdrawal. After a `settle` line, where nothing is deleted and the lines between change nothing of group and
+/// mirrors, that is what its pattern accepts of the join of publications. Nothing is deleted where no line was taken
 /// that can delete: [`a_settle_line_joins`].
 pub fn mirrors_list_what_they_ask_for()
     ensures listed { MirrorsAreListed }

@@ -3,7 +3,7 @@ ghost use Rattle.script_story.specs.declared.ending.Ending.TheVariants.{Done, Re
 ghost use Rattle.script_story.specs.Evaluation.{EachLineIsEvaluated, RunEnvironment, SyntaxIsOfTheGrammar};
 ghost use Rattle.script_story.specs.ScriptRun.{Reports};
 
-/// Every line is judged, and refused as Syntax exactly where the grammar refuses it.
+/// Every line is evaluated, and refused as Syntax exactly where the grammar refuses it.
 pub fn syntax_is_of_the_grammar()
     ensures evaluated { EachLineIsEvaluated }
     ensures syntax { SyntaxIsOfTheGrammar }

@@ -1,4 +1,4 @@
-//! The story of a script, and what holds of every story. A story is defined line by line, by values: it has
+//! The run of a script, and what holds of every run. A run is defined line by line, by values: it has
 //! no packets, no buffers and no workers.
 //!
 //! What is promised of it: `docs/promises/script_story.md`.

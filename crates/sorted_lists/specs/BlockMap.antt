@@ -50,7 +50,7 @@ module _ {K V A : Type 0} where
   abbrev pub IsBlank : Vec (K × V) A → Type 0
   IsBlank b = (b.items ≡ []) × (full ≤ vec_capacity b)
 
-  -- one that has room for an entry
+  -- one that has capacity for an entry
   abbrev pub IsOpen : Vec (K × V) A → Type 0
   IsOpen b = (length b.items < full) × (full ≤ vec_capacity b)
 
@@ -87,7 +87,7 @@ module _ {K V : Type 0} where
   abbrev pub entries : BlockMap K V → List (K × V)
   entries m = joined m.blocks.items
 
-  -- for how many more entries there is room
+  -- for how many more entries there is capacity
   abbrev pub spare : BlockMap K V → ℕ
   spare m = room m.blocks.items (vec_len m.spare)
 

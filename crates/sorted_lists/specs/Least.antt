@@ -1,4 +1,4 @@
--- What comes first by a key, among some.
+-- The first by a key, among some.
 use Rattle.std.specs.Prelude.{◌≡◌, Bool, true, List, Option, Some, None, if◌then◌else◌}
 use Rattle.std.specs.Ordering.{is_le, is_gt}
 use Rattle.std.specs.declared.cmp.Ordering.{Ordering}

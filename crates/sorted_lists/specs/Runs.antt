@@ -74,7 +74,7 @@ lasts runs = map (λ r. r.1) runs
 -- what contracts see of a set
 pub record RunsState (P : Type 0) : Type 0 where
   pub runs : List (Run P)  -- in order
-  pub spare : ℕ  -- for how many more runs there is room
+  pub spare : ℕ  -- for how many more runs there is capacity
 
 -- whether a set has the number
 abbrev pub has_number : {P : Type 0} → (P → P → Ordering) → RunsState P → Number P → Bool

@@ -27,7 +27,7 @@ pub(crate) fn first_from<K: Ord + Copy, V: Copy>(block: &[(K, V)], key: K) -> Op
     }
 }
 
-// The block, which has room for one more, gains the value under the key, in place of what it has there.
+// The block, which has capacity for one more, gains the value under the key, in place of what it has there.
 pub(crate) fn insert<K: Ord + Copy, V: Copy>(block: &mut Vec<(K, V)>, key: K, value: V)
     requires rises { Rises K.cmp (keys block.old.items) }
     requires room { length block.old.items < vec_capacity block.old }
@@ -51,7 +51,7 @@ pub(crate) fn remove<K: Ord + Copy, V: Copy>(block: &mut Vec<(K, V)>, key: K)
     }
 }
 
-// So many entries stay, and those after them go to the other block, which is empty and has room for them.
+// So many entries stay, and those after them go to the other block, which is empty and has capacity for them.
 pub(crate) fn split<K: Copy, V: Copy>(block: &mut Vec<(K, V)>, place: usize, back: &mut Vec<(K, V)>)
     requires place { place ≤ length block.old.items }
     requires empty { back.old.items ≡ [] }

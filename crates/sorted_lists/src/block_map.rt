@@ -1,4 +1,4 @@
-// Maps in blocks, in order of their keys, with room that is made beforehand.
+// Maps in blocks, in order of their keys, with capacity that is reserved beforehand.
 ghost use Rattle.std.specs.Prelude.{◌≡◌, ◌+◌, ◌*◌, ◌<◌, ◌≤◌, [], length, vec_len, OnOk};
 ghost use Rattle.sorted_lists.specs.SortedList.{with_value, without_key, last_up_to, first_from};
 ghost use Rattle.sorted_lists.specs.BlockMap.{IsMap, IsPlace, StaysInSplit, above_half, entries, half, spare};
@@ -6,7 +6,7 @@ ghost use Rattle.sorted_lists.specs.BlockMap.{IsMap, IsPlace, StaysInSplit, abov
 use crate::block;
 use std::alloc::{AllocError, Global};
 
-// A block that has come to so many entries is split in two.
+// A block that has so many entries is split in two.
 const FULL: usize = 64;
 
 // So many of them stay, unless the last was appended to the map.
@@ -35,7 +35,7 @@ impl<K: Ord + Copy, V: Copy> BlockMap<K, V> {
         }
     }
 
-    // Makes room for so many more entries. Each entry takes one empty block at most. Where many come, the blocks are
+    // Reserves capacity for so many more entries. Each takes one empty block at most. Where many come, the blocks are
     // split for each `HALF` entries that stand above half a block, and then at every `HALF` further entries.
     pub fn reserve(&mut self, n: usize) -> Result<(), AllocError>
         requires { IsMap K.cmp self.old }
@@ -140,7 +140,7 @@ impl<K: Ord + Copy, V: Copy> BlockMap<K, V> {
         }
     }
 
-    // The map, which has room for one more, gains the value under the key, in place of what it has there.
+    // The map, which has capacity for one more, gains the value under the key, in place of what it has there.
     pub fn insert(&mut self, key: K, value: V)
         requires map { IsMap K.cmp self.old }
         requires room { 0 < spare self.old }

@@ -1,4 +1,4 @@
-//! Maps and sets in order of their keys, with room that is made beforehand, so that later changes take no memory. A
+//! Maps and sets in order of their keys, with capacity reserved beforehand, so that later changes allocate nothing. A
 //! contract sees each as a list in order.
 //!
 //! What is promised of it: `docs/promises/sorted_lists.md`.

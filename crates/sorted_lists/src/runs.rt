@@ -9,10 +9,10 @@ use crate::sorted_map::SortedMap;
 use std::alloc::{AllocError, Global};
 use std::marker::Model;
 
-/// A set of numbers, of several things each, with room that is made beforehand.
+/// A set of numbers, of several things each, with capacity that is reserved beforehand.
 ///
 /// It is kept as runs of numbers that follow one another, which neither overlap nor touch, so that a set of many
-/// numbers with few gaps is small. A contract sees the runs, and for how many more there is room.
+/// numbers with few gaps is small. A contract sees the runs, and for how many more there is capacity.
 #[derive(Debug, Drop)]
 pub struct Runs<P: Ord + Copy> {
     // By a run's first number its last.
@@ -31,7 +31,7 @@ impl<P: Ord + Copy> Model for Runs<P> {
 }
 
 impl<P: Ord + Copy> Runs<P> {
-    /// The empty set, which has no room yet.
+    /// The empty set, without capacity.
     pub fn new(alloc: Global) -> Runs<P>
         requires { IsExact P.cmp }
         ensures runs { result.runs ≡ [] }
@@ -81,7 +81,7 @@ impl<P: Ord + Copy> Runs<P> {
         }
     }
 
-    /// Makes room for `n` more runs.
+    /// Reserves capacity for `n` more runs.
     pub fn reserve(&mut self, n: usize) -> Result<(), AllocError>
         ensures runs { self.new.runs ≡ self.old.runs }
         ensures grows { self.old.spare ≤ self.new.spare }

@@ -5,7 +5,7 @@ use crate::block_map::BlockMap;
 use std::alloc::{AllocError, Global};
 use std::marker::Model;
 
-/// A map in order of its keys, with room for entries that is made beforehand.
+/// A map in order of its keys, with capacity for entries that is reserved beforehand.
 ///
 /// A contract sees its entries as a list, and for how many more there is room. `insert` uses up room for one at most,
 /// and no other call any. Entries stand in blocks of fewer than 64. A look-up or a change is a search among the blocks
@@ -29,7 +29,7 @@ impl<K: Ord + Copy, V: Copy> Model for SortedMap<K, V> {
 }
 
 impl<K: Ord + Copy, V: Copy> SortedMap<K, V> {
-    /// The empty map, which has no room yet.
+    /// The empty map, without capacity.
     pub fn new(alloc: Global) -> SortedMap<K, V>
         ensures entries { result.entries ≡ [] }
         ensures spare { result.spare ≡ 0 }
@@ -39,7 +39,7 @@ impl<K: Ord + Copy, V: Copy> SortedMap<K, V> {
         }
     }
 
-    /// Makes room for `n` more entries.
+    /// Reserves capacity for `n` more entries.
     pub fn reserve(&mut self, n: usize) -> Result<(), AllocError>
         ensures entries { self.new.entries ≡ self.old.entries }
         ensures grows { self.old.spare ≤ self.new.spare }

@@ -1,4 +1,4 @@
-//! Hash maps with room in reserve, seen as their entries in order of the keys.
+//! Hash maps with reserved capacity, seen as their entries in order of the keys.
 ghost use Rattle.std.specs.Prelude.{◌≡◌, ◌+◌, ◌<◌, ◌≤◌, not, length, OnOk};
 ghost use Rattle.std.specs.List.{filter};
 ghost use Rattle.std.specs.HashMap.{spare};
@@ -9,7 +9,7 @@ use std::alloc::AllocError;
 use std::collections::HashMap;
 use std::hash::Hash;
 
-/// Makes room for so many more entries.
+/// Reserves capacity for so many more entries.
 pub fn reserve<K: Ord + Hash, V>(map: &mut HashMap<K, V>, n: usize) -> Result<(), AllocError>
     requires { IsExact K.cmp }
     ensures entries { in_order K.cmp map.new.entries ≡ in_order K.cmp map.old.entries }
@@ -37,7 +37,7 @@ where
     map.get(&key).copied()
 }
 
-/// The map, which has room for one more, gains the value under the key, in place of what it has there.
+/// The map, which has capacity for one more, gains the value under the key, in place of what it has there.
 pub fn set_value<K: Ord + Hash + Drop, V: Drop>(map: &mut HashMap<K, V>, key: K, value: V)
     requires exact { IsExact K.cmp }
     requires room { 0 < spare map.old }

@@ -1,4 +1,4 @@
--- How a machine keeps its member.
+-- The value of a member's sync state.
 use Rattle.std.specs.Prelude.{ℕ, List, Option, Some, None, length}
 use Rattle.svs_sync.specs.declared.mode.Mode.{Mode}
 use Rattle.svs_sync.specs.declared.mode.Mode.TheVariants.{Steady, Suppressed}
@@ -10,7 +10,7 @@ abbrev pub heard_in : Mode → List ℕ → Option (List ℕ)
 heard_in Steady vector = None
 heard_in Suppressed vector = Some vector
 
--- What contracts see of the machine.
+-- What contracts see of the sync state.
 abbrev pub keeper : Inside → SyncState
 keeper m =
     record {

@@ -1,5 +1,5 @@
--- When a member sends its state vector, and when it holds back: the suppression of State Vector Sync, with the times
--- and the draws of this project. Moments and times are in milliseconds.
+-- When a member sends its state vector, and when it is suppressed: the suppression of State Vector Sync, with the times
+-- and the draws of this project. Times are in milliseconds.
 use Rattle.std.specs.Prelude.{ℕ, ◌+◌, ◌%◌, List, [], ◌∷◌, ◌++◌, Option, Some, None, nat_lt, if◌then◌else◌}
 use Rattle.svs_vector.specs.Vectors.{covers, join_all}
 use Rattle.svs_sync.specs.declared.mode.Mode.{Mode}

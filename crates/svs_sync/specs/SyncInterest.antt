@@ -1,4 +1,4 @@
--- Sync Interests (State Vector Sync, in the profile of this project): which octets one is, and what it tells, or why it
+-- Sync Interests (State Vector Sync, in the profile of this project): which octets one is, and what it says, or why it
 -- is refused.
 use Rattle.std.specs.Prelude.{◌≡◌, ℕ, ◌≤◌, Bool, ◌&&◌, List, [], ◌∷◌, ◌++◌, length, unwrap_or, Result, Ok, Err}
 use Rattle.ndn_tlv.specs.Types as types
@@ -41,7 +41,7 @@ pub record IsKeyName (name : List Component) : Type 0 where
 
 -- ---- writing
 
--- The sync Interest that tells the numbers of a vector's members, signed under the key of this name: its parameters are
+-- The sync Interest of the numbers of a vector's members, signed under the key of this name: its parameters are
 -- the state vector.
 abbrev pub sync_interest : List Component → List ℕ → List (List Component) → List Component → List ℕ → List ℕ
 sync_interest group vector roster key_name key =
@@ -75,7 +75,7 @@ vector_or (Err fault) = Err (Vector fault)
 abbrev pub is_sync_name : List Component → List Component → Bool
 is_sync_name group name = has_same_octets (without_last name) (sync_name group) && ends_in_digest name
 
--- The number of the key that signed an Interest, and the vector that it tells; or the first refusal.
+-- The number of the key that signed an Interest, and its vector; or the first refusal.
 abbrev pub sync_interest_verdict : List Component → List (List Component) → List NamedKey → Interest
     → Result (ℕ × List ℕ) SyncRefusal
 sync_interest_verdict group roster ring i = do

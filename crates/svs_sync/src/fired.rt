@@ -3,7 +3,7 @@
 pub enum Fired {
     /// The deadline hasn't come.
     Early,
-    /// Others have reported what this member knows.
+    /// Others have sent what this member knows.
     Quiet,
     /// The member sends its vector.
     Send,

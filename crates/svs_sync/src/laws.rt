@@ -21,7 +21,7 @@ pub fn what_is_kept_is_the_join()
     ensures mode { (members : ℕ) (m : SyncMember) → mode_of (kept members m).heard ≡ mode_of m.heard }
 {}
 
-/// The sync Interest that was made is checked: it tells the vector that was given, and its signer
+/// The sync Interest that was made is checked: it has the vector that was given, and its signer
 /// is the number of the key in the ring.
 pub fn made_sync_interests_are_checked()
     ensures { (group key_name : List Component) (roster : List (List Component))
@@ -45,7 +45,7 @@ pub fn sync_interests_are_tested()
         ≡ group ++ (types.VersionNameComponent, 2 ∷ []) ∷ (types.ParametersSha256DigestComponent, digest) ∷ [])) }
 {}
 
-/// The vector that a sync Interest tells has a number for each member.
+/// The vector of a sync Interest has a number for each member.
 pub fn received_vectors_have_all_members()
     ensures { (group : List Component) (roster : List (List Component)) (ring : List NamedKey)
         (octets : List ℕ) (received : ℕ × List ℕ)

@@ -1,6 +1,6 @@
-//! Sync Interests and the suppression of State Vector Sync: how a member tells the others of its
-//! state vector, and what it takes from them; when it sends, and when it holds back because others
-//! have reported what it knows.
+//! Sync Interests and the suppression of State Vector Sync: how a member announces to the others its
+//! state vector, and what it takes from them; when it sends, and when it doesn't because others
+//! have sent what it knows.
 //!
 //! What is promised of it: `docs/promises/svs_sync.md`.
 #![tactic(auto)]

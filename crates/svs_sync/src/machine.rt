@@ -8,9 +8,9 @@ use std::alloc::{AllocError, Global};
 use std::marker::Model;
 use svs_vector::Vector;
 
-/// When a member sends its state vector, and when it holds back (the suppression of State Vector Sync).
+/// When a member sends its state vector, and when it is suppressed (the suppression of State Vector Sync).
 ///
-/// Moments are in milliseconds, on any clock that doesn't go back. The caller hands in the draw of the number
+/// Times are in milliseconds, on any clock that doesn't go back. The caller passes the draw of the number
 /// `next_draw` with each call that may use one. Only `new` takes memory.
 #[derive(Debug, Drop)]
 pub struct Machine {
@@ -21,7 +21,7 @@ pub struct Machine {
     draws: u64,
 }
 
-// A machine is seen as what it keeps of its member.
+// A sync state is seen as what it keeps of its member.
 impl Model for Machine {
     ghost use Rattle.svs_sync.specs.SyncStates.{SyncState};
 
@@ -33,7 +33,7 @@ impl Model for Machine {
 }
 
 impl Machine {
-    /// The machine of a member that begins Steady, with its first draw.
+    /// The sync state of a member that begins Steady, with its first draw.
     pub fn new(alloc: Global, members: usize, now: u64, draw: u32) -> Result<Machine, AllocError>
         requires { now < 2 ^ 62 }
         ensures { IfOk result (λ machine. machine ≡ record {
@@ -108,7 +108,7 @@ impl Machine {
         fired
     }
 
-    /// What the member would do now, as `fired` tells. Nothing is done.
+    /// What the member would do now, as `fired` answers. Nothing is done.
     pub fn fires(&self, now: u64, known: &Vector) -> Fired
         requires { length known.now ≡ self.now.members }
         ensures { result ≡ fires_joined now known.now self.now }

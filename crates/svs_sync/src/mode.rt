@@ -1,4 +1,4 @@
-/// Whether a member waits in peace, or holds back what it could tell because others may tell it first.
+/// Whether a member is steady, or suppressed: it doesn't send its vector as long as others may send it first.
 #[derive(Clone, Copy, Debug, PartialEq, Eq)]
 pub enum Mode {
     Steady,

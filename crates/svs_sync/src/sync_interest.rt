@@ -59,7 +59,7 @@ fn sync_name(alloc: Global, group: &Name) -> Result<Name, AllocError>
 }
 
 /// Checks the octets of a sync Interest of the group, and gives the number of the key in the ring
-/// that signed it, and the vector that it tells.
+/// that signed it, and its vector.
 ///
 /// Only the vector takes memory, and that comes last: it is checked as [`check_numbers`] checks it.
 pub fn check_sync(
@@ -86,9 +86,9 @@ pub fn check_sync(
 }
 
 /// Checks the octets of a sync Interest of the group, and gives the number of the key in the ring
-/// that signed it, and the numbers that it tells. It takes no memory.
+/// that signed it, and its numbers. It allocates nothing.
 ///
-/// The signer is known by its key alone, whatever the numbers tell. What follows the state vector
+/// The signer is known by its key alone, whatever the numbers are. What follows the state vector
 /// in the parameters is passed over.
 pub fn check_numbers(
     octets: &[u8],

@@ -21,7 +21,7 @@ pub enum SyncRefusal {
     UnknownKey,
     #[error("the signature is not that of the key")]
     BadSignature,
-    /// The parameters begin with no state vector, or one that tells too large a number.
+    /// The parameters begin with no state vector, or with one that has too large a number.
     #[error("{0}")]
     Vector(VectorFault),
     #[error("out of memory")]

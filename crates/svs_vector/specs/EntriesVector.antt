@@ -24,7 +24,7 @@ abbrev pub greatest_number : List Component → List Entry → ℕ
 greatest_number name [] = 0
 greatest_number name (e ∷ es) = max (number_in_entry name e) (greatest_number name es)
 
--- The vector that entries tell: the greatest number of each member. Nodes that are no members are passed over.
+-- The vector of entries: the greatest number of each member. Nodes that are no members are passed over.
 abbrev pub vector_of_entries : List (List Component) → List Entry → List ℕ
 vector_of_entries roster entries = map (λ name. greatest_number name entries) roster
 
@@ -36,7 +36,7 @@ HaveSameEntries a b = (e : Entry) → Contains a e ↔ Contains b e
 abbrev pub IsCounted : List (List Component) → Entry → Type 0
 IsCounted roster entry = IfSome (member_of entry.0 roster) (λ member. entry.1 ≤ number_limit)
 
--- What the fields of a state vector's element tell: the entries that they are, or the first fault in reading order.
+-- The entries that the fields of a state vector's element are, or the first fault in reading order.
 -- That is an element that is no entry, a member's number above the greatest, or a fault of the fields after the last
 -- of them.
 pub data FieldsTell (roster : List (List Component)) (vector : Item) : Listing (VectorField × Item) FieldError
@@ -57,7 +57,7 @@ pub data FieldsTell (roster : List (List Component)) (vector : Item) : Listing (
       (entry : Entry) → entry_in field.1 ≡ Ok entry → IsCounted roster entry → FieldsTell roster vector rest (Err fault)
       → FieldsTell roster vector (field then rest) (Err fault)
 
--- The StateVector that octets begin with, and what its fields tell.
+-- The StateVector that octets begin with, and its fields.
 pub record Begins (roster : List (List Component)) (octets : List ℕ) (received : Result (List Entry) VectorFault)
     : Type 0 where
   pub vector : Item
@@ -71,7 +71,7 @@ abbrev pub BeginsWithoutVector : List ℕ → Type 0
 BeginsWithoutVector octets = (e : Item) (es : List Item) → (elements 0 octets).items ≡ e ∷ es → e.typ
     ≡ format.StateVector → ⊥
 
--- The octets are a state vector, and this is the vector that its entries tell.
+-- The octets are a state vector, and this is the vector of its entries.
 pub record IsVector (roster : List (List Component)) (octets vector : List ℕ) : Type 0 where
   pub entries : List Entry
   pub begins : Begins roster octets (Ok entries)

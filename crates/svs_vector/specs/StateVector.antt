@@ -1,4 +1,4 @@
--- What octets are as a state vector of a group, or the first fault in reading order (State Vector Sync, with the
+-- How octets are read as a state vector of a group, or the first fault in reading order (State Vector Sync, with the
 -- element types of this project).
 use Rattle.std.specs.Prelude.{ℕ, max, List, [], ◌∷◌, Option, Some, None, Result, Ok, Err, length, replicate}
 use Rattle.std.specs.Prelude.{slice_index, slice_set, nat_lt, ◌==◌, if◌then◌else◌}
@@ -33,7 +33,7 @@ fault_in e (Critical typ at) = BadVector at
 
 -- ---- an entry
 
--- A node name, and the number that is reported of it.
+-- A node name, and its number.
 abbrev pub Entry : Type 0
 Entry = List Component × ℕ
 

@@ -13,7 +13,7 @@ join [] w = w
 join (n ∷ v) [] = n ∷ v
 join (n ∷ v) (m ∷ w) = max n m ∷ join v w
 
--- The second vector tells nothing that the first doesn't.
+-- The second vector has no greater number than the first.
 abbrev pub Covers : List ℕ → List ℕ → Type 0
 Covers v w = join v w ≡ v
 

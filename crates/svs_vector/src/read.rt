@@ -40,7 +40,7 @@ impl Vector {
 
 impl VectorNumbers {
     /// The numbers of the state vector that the octets begin with, of the members of a roster. It
-    /// takes no memory.
+    /// allocates nothing.
     ///
     /// Entries come in any order, and a node's greatest number counts. Nodes that are no members
     /// are passed over.

@@ -50,7 +50,7 @@ impl Vector {
         Vector::of(alloc, &self.numbers)
     }
 
-    /// Takes the other's numbers for its own. It takes no memory.
+    /// Takes the other's numbers for its own. It allocates nothing.
     pub fn copy_from(&mut self, other: &Vector)
         requires { length self.old ≡ length other.now }
         ensures { self.new ≡ other.now }
@@ -84,7 +84,7 @@ impl Vector {
         *number = (*number).max(n);
     }
 
-    /// Takes the greater number in each place, and tells whether anything changed.
+    /// Takes the greater number in each place, and returns whether anything changed.
     pub fn join(&mut self, other: &Vector) -> bool
         requires { length self.old ≡ length other.now }
         ensures joined { self.new ≡ join self.old other.now }
@@ -94,7 +94,7 @@ impl Vector {
         take_greater(&mut self.numbers, &other.numbers)
     }
 
-    /// Whether the other tells nothing that this one doesn't.
+    /// Whether the other has no greater number than this one.
     pub fn covers(&self, other: &Vector) -> bool
         requires { length self.now ≡ length other.now }
         ensures { result ≡ covers self.now other.now }

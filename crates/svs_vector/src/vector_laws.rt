@@ -27,7 +27,7 @@ pub fn constants_are_the_formats()
     ensures members { MEMBER_LIMIT ≡ format.member_limit }
 {}
 
-/// What is read as a state vector is what its entries tell: the greatest number of each member.
+/// What is read as a state vector is the vector of its entries: the greatest number of each member.
 /// What is refused has this fault first, in reading order.
 pub fn state_vectors_tell_their_entries()
     ensures vector { (roster : List (List Component)) (octets vector : List ℕ) → IsRoster roster

@@ -5,7 +5,7 @@ use crate::vector::Vector;
 use std::alloc::{AllocError, Global};
 use std::marker::Model;
 
-/// The numbers that a state vector tells, one a member, as they are read: no memory is taken for
+/// The numbers of a state vector, one a member, as they are read: nothing is allocated for
 /// them.
 #[derive(Debug, Drop)]
 pub struct VectorNumbers {

@@ -14,7 +14,7 @@ use std::alloc::AllocError;
 use std::thread::Threads;
 
 impl World {
-    /// Each mirror learns what all members know, and gains every part that its pattern is for and that some member
+    /// Each mirror learns what all members know, and gains every part that its pattern accepts and that some member
     /// holds with those that list it: how many parts came. Attempts aren't counted, and nothing is asked of the
     /// network.
     ///
@@ -30,7 +30,7 @@ impl World {
         ensures len { length self.new.mirrors ≡ length self.old.mirrors }
         ensures settled { OnOk result (HaveSettled (world_of self.old) self.old.mirrors self.new.mirrors) }
         ensures parts { IfOk result (λ n. n + held_by_all self.old.mirrors ≡ held_by_all self.new.mirrors) }
-        // Where nothing is hidden, each catalogue is what the mirror's pattern accepts of the join of all publications.
+        // Where nothing is deleted, each catalogue is what the mirror's pattern accepts of the join of publications.
         ensures joined { OnOk result (NothingDeleted (world_of self.old) → (i : ℕ) → i < length self.new.mirrors
             → ListsItsJoin (world_of self.old) (mirror_at self.new.mirrors i)) }
         ensures err { OnErr result

@@ -35,7 +35,7 @@ pub enum MirrorFault {
 }
 
 impl MirrorFault {
-    /// Running out of memory, which is all that a mirror can meet where there is room for it.
+    /// Out of memory: the only fault there can be, where there is a place for the mirror.
     pub fn only_memory(self) -> AllocError
         requires { self ≡ MirrorFault.NoMemory }
     {
@@ -74,7 +74,7 @@ impl World {
         Ok(number)
     }
 
-    /// A mirror learns what a sync Interest tells that was sent, by its number. A refusal has its name.
+    /// A mirror learns the vector of a sync Interest that was sent, by its number. A refusal has its name.
     pub fn mirror_learns(&mut self, i: u32, k: u32) -> Result<(), EventError>
         requires there { i < length self.old.mirrors }
         ensures sent { OnOk result (unless_sent (world_of self.old) k ≡ None) }
@@ -96,7 +96,7 @@ impl World {
         Ok(())
     }
 
-    /// A mirror learns what a sync Interest tells that was sent, by its number. It is refused, by number 5, where no
+    /// A mirror learns the vector of a sync Interest that was sent, by its number. It is refused, by number 5, where no
     /// such packet was sent.
     pub fn mirror_deliver(&mut self, i: u32, k: u32) -> Result<(), StepFault>
         requires there { i < length self.old.mirrors }
@@ -158,7 +158,7 @@ impl World {
         Ok(counts)
     }
 
-    /// What a mirror's catalogue lists: the objects that its pattern is for of which it holds every part, and no
+    /// What a mirror's catalogue lists: the objects that its pattern accepts, of which it holds every part and no
     /// withdrawal.
     pub fn mirror_catalogue(&self, i: u32) -> &Catalogue
         requires there { i < length self.now.mirrors }

@@ -65,7 +65,7 @@ impl World {
         }
     }
 
-    /// What all catalogues come to.
+    /// The totals of all catalogues.
     pub(crate) fn summary(&mut self) -> Result<Happened, EventError>
         requires few { self.old.steps < 100000 }
         ensures { IsStep (lossless self.old.keys) EventValue.Summary self.old result self.new }
@@ -111,7 +111,7 @@ impl World {
     }
 }
 
-// The numbers that a vector tells.
+// The numbers of a vector.
 fn known(alloc: Global, vector: &Vector) -> Result<Vec<u64>, AllocError>
     requires { length vector.now ≤ 16 }
     ensures { IfOk result (λ numbers. numbers.items ≡ vector.now) }
@@ -123,7 +123,7 @@ fn known(alloc: Global, vector: &Vector) -> Result<Vec<u64>, AllocError>
     Ok(numbers)
 }
 
-// What catalogues come to, one after another.
+// The totals of catalogues, one after another.
 #[derive(Drop)]
 struct SummaryColumns {
     entries: Vec<u64>,

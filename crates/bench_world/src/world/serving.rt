@@ -30,7 +30,7 @@ impl World {
 
     /// A member's fetcher asks another member for what it claims.
     ///
-    /// The answer is foreign where what came passes for the part and isn't its publisher's packet.
+    /// The answer is foreign where the packet passes for the part and isn't its publisher's.
     pub(crate) fn answer(&mut self, m: u32, f: u32, q: u32) -> Result<Happened, EventError>
         requires there { m < length self.old.members }
         requires fetcher { IsFetcher f }
@@ -144,7 +144,7 @@ fn answered(m: u32, f: u64, kept: bool) -> Happened
     }
 }
 
-// How many parts come to be held, where so many octets are kept, or none.
+// How many parts become held, where so many octets are kept, or none.
 fn parts_of(kept: Option<u64>) -> u64
     ensures { result ≡ parts_kept kept }
 {

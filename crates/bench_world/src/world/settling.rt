@@ -1,4 +1,4 @@
-// What members tell each other and gather of each other in a settle.
+// The sync Interests that members exchange in a settle, and what they fetch from each other.
 ghost use Rattle.std.specs.Prelude.{◌≡◌, ◌+◌, ◌<◌, ◌≤◌, IfOk, OnOk, OnErr};
 ghost use Rattle.group_model.specs.Laws.{NothingDeleted, AllJoined};
 ghost use Rattle.group_model.specs.Steps.{after_gathering, settle_new_parts};
@@ -19,7 +19,7 @@ use std::thread::Threads;
 
 impl World {
     /// All claims end, each member learns what all know, and gains every part that some member holds with its record
-    /// and that it doesn't hide: how many parts came. The machines aren't reset, which the step of a settle does.
+    /// and that it hasn't deleted: how many parts came. The sync states aren't reset, which the step of a settle does.
     ///
     /// The network is asked, but its answers decide nothing. After running out of memory each member has come a part of
     /// the way.
@@ -33,7 +33,7 @@ impl World {
         requires few { self.old.steps < 100000 }
         ensures world { OnOk result (world_of self.new ≡ after_gathering (lossless self.old.keys) (world_of self.old)) }
         ensures parts { IfOk result (λ parts. parts ≡ settle_new_parts (world_of self.old)) }
-        // Where nothing is hidden, each catalogue is the join of all publications.
+        // Where nothing is deleted, each catalogue is the join of all publications.
         ensures joined { OnOk result (NothingDeleted (world_of self.new) → AllJoined (world_of self.new)) }
         ensures steps { self.new.steps ≡ self.old.steps + 1 }
         ensures keeps { KeepsKeysAndMirrors self.old self.new }
@@ -60,7 +60,7 @@ impl World {
         Ok(parts)
     }
 
-    /// The step of a settle: each machine starts again afterwards, with its member's next draw.
+    /// The step of a settle: each sync state starts again afterwards, with its member's next draw.
     pub(crate) fn settle_step<N: Net + Sync, D: Draws, R: Threads + Sync>(
         &mut self,
         rt: &R,

@@ -1,4 +1,4 @@
-// What members tell each other, and their timers.
+// The sync Interests of members, and their timers.
 ghost use Rattle.std.specs.Prelude.{◌≡◌, ◌+◌, ◌<◌, ◌≤◌, length};
 ghost use Rattle.bench_world.specs.Worlds.{drawing};
 ghost use Rattle.bench_world.specs.Timers.{after_firing, fire_report};
@@ -82,7 +82,7 @@ impl World {
         Ok(happened)
     }
 
-    /// A member starts again: its claims end, and its machine is reset.
+    /// A member starts again: its claims end, and its sync state is reset.
     pub(crate) fn restart<D: Draws>(&mut self, m: u32, draws: &D) -> Happened
         requires there { m < length self.old.members }
         requires few { self.old.steps < 100000 }
@@ -106,7 +106,7 @@ fn delivered(k: u64, m: u32, mode: Mode) -> Happened
     }
 }
 
-// The sync Interest of a member that fired is sent, if there is one, for which room was made.
+// The sync Interest of a member that fired is sent, if there is one, for which capacity was reserved.
 fn send_fired(sent: &mut Sent, m: u32, vector: Vec<u16>, fire: Fire) -> Happened
     requires room { 0 < sent.old.spare }
     requires few { length sent.old.packets < 4294967295 }

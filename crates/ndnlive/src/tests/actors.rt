@@ -19,7 +19,7 @@ const BOB: u32 = 1;
 
 const PUBLISHER: u32 = 0;
 
-// Alice's sync Interest once she has published the first of her objects alone, of which no settle tells.
+// Alice's sync Interest once she has published the first of her objects alone, which no settle announces.
 const FIRST_REPORTED: &str =
     "0573072808016736010202206f504a90c15c79060eb22e95a6f5a26d5ac53df3312f58b4aae5e2\
     3af1b299fd2410c90eca0c07070805616c696365cc01012c131b01041c0e070c0805616c696365\

@@ -16,7 +16,7 @@ const FAULT: Status = Status::Refused {
 
 const NAME: &str = "07 Name 6\n  08 GenericNameComponent 1 61\n  32 SegmentNameComponent 1 00\n";
 
-// Inputs, and what comes of each.
+// Inputs, and the result of each.
 const DIGITS: [(&str, Status, &str); 8] = [
     ("0706080161320100", Status::Done, NAME),
     (" 07 06\t080161\r\n32 010 0\n", Status::Done, NAME),

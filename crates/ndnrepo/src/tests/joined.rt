@@ -84,7 +84,7 @@ const STORIES: [&[(&str, &str)]; 5] = [
         ("advance 100", A_AND_B),
         ("fire bob", A_AND_B),
     ],
-    // An object is withdrawn, and the withdrawal comes to bob between the parts of the object.
+    // An object is withdrawn, and the withdrawal reaches bob between the parts of the object.
     &[
         ("publish alice /a 10 text:abc", A),
         ("publish alice /b 10 text:abc", A_AND_B),
@@ -138,7 +138,7 @@ fn expect_end<R: Threads + Sync + AllocGlobal + Abort>(rt: &R, script: &str, end
     is(rt, written.ends_with(end), script);
 }
 
-// The first lines of a story, and then its end.
+// The first lines of a run, and then its end.
 fn script_of_lines(rt: &(impl Abort + AllocGlobal), lines: &[(&str, &str)]) -> String {
     let mut script = String::from_str(rt.alloc(), PRE).expect(rt, "memory");
     put(rt, &mut script, "client carl /carl 6b34\n");

@@ -4,7 +4,7 @@ use std::test::*;
 
 // Lines after those of the group and its members, each with what it prints after it, and the status.
 const MIRRORED: [(&str, Status); 3] = [
-    // A mirror fetches the records of its publisher, then the rest of the objects that its pattern is for.
+    // A mirror fetches the records of its publisher, then the rest of the objects that its pattern accepts.
     (
         "mirror mia alice /doc\n\
          publish alice /doc/a 10 text:abc\n\

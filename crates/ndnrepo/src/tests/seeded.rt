@@ -111,7 +111,7 @@ fn week_script(rt: &(impl Abort + AllocGlobal)) -> String {
     script
 }
 
-// 230 parts of 20 publications reach four members each, but for 4 that two members fetched before; then 330 parts.
+// 230 parts of 20 publications reach four members each, except 4 that two members fetched before; then 330 parts.
 fn week_report(rt: &(impl Abort + AllocGlobal)) -> String {
     let mut report = String::new(rt.alloc());
     put_published(rt, &mut report, 0, 0);

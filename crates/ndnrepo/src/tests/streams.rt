@@ -18,7 +18,7 @@ const ENDINGS: [(&str, u64, Status); 3] = [
         0,
         Status::Refused { line: 5, number: 4 },
     ),
-    // bob tells that alice has published, and nobody has.
+    // bob announces that alice has published, and nobody has.
     (
         "settle 1\n\
          hear bob 0571072808016736010202206cd855fdbf3b84d34fecd34746db6228f93b53a9d0fc8051edbacf236e0500662410c90eca0c\
@@ -152,7 +152,7 @@ const TOO_LONG: Status = Status::Refused { line: 1, number: 4 };
 
 const SYNTAX: Status = Status::Refused { line: 1, number: 1 };
 
-// Lines that are filled with spaces to so many octets, with their ends, and what comes of each.
+// Lines that are filled with spaces to so many octets, with their ends, and the result of each.
 const FILLED: [(&str, usize, &str, Status, &str); 10] = [
     ("#", 32_768, "\n", Status::Done, ""),
     ("#", 32_768, "", Status::Done, ""),
@@ -223,7 +223,7 @@ fn expect_repeated<R: Threads + Sync + AllocGlobal + Abort>(
     expect_from(rt, "run", &mut source, wanted, text);
 }
 
-// Lines of so many spaces without an end of the script, and what comes of each.
+// Lines of so many spaces without an end of the script, and the result of each.
 const ENDLESS: [(usize, &str, Status, &str); 3] = [
     (1, "", TOO_LONG, LIMIT),
     (

@@ -9,7 +9,7 @@ use repo_plan::{FetcherBusy, FetcherIdle, Part};
 
 impl Holdings {
     /// The fetcher claims the least part that is wanted and that no fetcher claims, or none where there is none. It
-    /// takes no memory.
+    /// allocates nothing.
     pub fn claim(&mut self, f: u8) -> Result<Option<Part>, FetcherBusy>
         requires { IsFetcher f }
         ensures idle { IsOk result ↔ (claim_of (held_plan self.old) f ≡ None) }
@@ -31,7 +31,7 @@ impl Holdings {
         self.stock.plan.claimed(f)
     }
 
-    /// The fetcher's claim ends, and its part can be claimed again, or be held. It takes no memory.
+    /// The fetcher's claim ends, and its part can be claimed again, or be held. It allocates nothing.
     pub fn release(&mut self, f: u8) -> Result<Part, FetcherIdle>
         requires { IsFetcher f }
         ensures busy { IfOk result (λ part. claim_of (held_plan self.old) f ≡ Some part) }
@@ -43,7 +43,7 @@ impl Holdings {
         self.stock.plan.release(f)
     }
 
-    /// Every fetcher's claim ends. It takes no memory.
+    /// Every fetcher's claim ends. It allocates nothing.
     pub fn end_claims(&mut self)
         ensures { self.new ≡ record self.old { claims = no_claims } }
     {

@@ -20,9 +20,9 @@ use repo_plan::{Part, Plan, Shape};
 use repo_store::Store;
 
 impl Holdings {
-    /// A part that is wanted is held from now on, with the packet that came for it, where room was made, and the
+    /// A part that is wanted is held from now on, with the packet received for it, where capacity was reserved, and the
     /// catalogue changes by it: an object is listed where no part of it is missing any more, unless it is withdrawn,
-    /// and what a withdrawal withdraws is removed. It takes no memory.
+    /// and what a withdrawal withdraws is removed. It allocates nothing.
     pub fn gain(&mut self, part: Part, arrival: Arrival)
         requires room { 0 < self.old.spare }
         requires arrival { IsArrival self.old.store part arrival.packet arrival.summary }
@@ -75,7 +75,7 @@ impl Stock {
     }
 }
 
-// A part that is asked for is held from now on, with its packet, where room was made. `shape` is what a record tells.
+// A part that is asked for is held from now on, with its packet, within the capacity. `shape` is what a record says.
 pub(super) fn gain(
     plan: &mut Plan,
     store: &mut Store,

@@ -17,7 +17,7 @@ use std::alloc::AllocError;
 
 impl Holdings {
     /// These publications, which are in order, are hidden for good: none of their packets is held or listed any more,
-    /// and none of their parts is wanted. The room that was made stays.
+    /// and none of their parts is wanted. The capacity that was reserved stays.
     ///
     /// Packets and entries go in one pass, however many publications there are. A withdrawal can't be hidden: what it
     /// withdraws stays so.
@@ -43,7 +43,7 @@ impl Holdings {
     }
 }
 
-// These publications are hidden for good, for which room was made: none of their packets is held or listed any more.
+// These publications are hidden for good, within the capacity: none of their packets is held or listed any more.
 fn hide_all(stock: &mut Stock, catalogue: &mut Catalogue, publications: &[(u32, u16)])
     requires room { length publications.now ≤ stock.old.plan.spare }
     requires hidable { CanBeHidden publications.now stock.old }
@@ -60,7 +60,7 @@ fn hide_all(stock: &mut Stock, catalogue: &mut Catalogue, publications: &[(u32, 
     catalogue.remove_all(publications);
 }
 
-// The plan hides these publications, for which room was made.
+// The plan hides these publications, for which capacity was reserved.
 fn hide_in_plan(plan: &mut Plan, publications: &[(u32, u16)])
     requires room { length publications.now ≤ plan.old.spare }
     requires unclaimed { All (λ pair. claims_part_in plan.old pair ≡ false) publications.now }

@@ -14,7 +14,7 @@ use repo_store::Store;
 impl Holdings {
     /// The parts of a new publication with this summary are held from now on, with these packets, where room was
     /// made: the record, the index packets and the segments. An object is catalogued, and what a withdrawal withdraws
-    /// is removed. It takes no memory.
+    /// is removed. It allocates nothing.
     pub fn publish_parts(
         &mut self,
         publisher: u32,

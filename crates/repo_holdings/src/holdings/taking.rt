@@ -1,4 +1,4 @@
-// What came of parts that were asked for.
+// The results of parts that were asked for.
 ghost use Rattle.std.specs.Prelude.{◌≡◌, ◌<◌, ◌≤◌, ◌^◌, [], ◌∷◌, vec_len, vec_capacity, map, is_some, count_by};
 ghost use Rattle.std.specs.Prelude.{sum_by};
 ghost use Rattle.std.specs.List.{All};
@@ -18,7 +18,7 @@ use crate::record_summary::Arrival;
 use repo_catalog::Catalogue;
 use repo_plan::Part;
 
-/// What came of a part that was asked for: how often it was tried, and its packet, if one came.
+/// The result of a part that was asked for: how often it was tried, and its packet, if one was received.
 #[derive(Drop)]
 pub struct Tried {
     pub part: Part,
@@ -46,9 +46,9 @@ pub struct Taken {
 }
 
 impl Holdings {
-    /// Takes what came of parts that were asked for, where room was made: the packets that came are held from now on,
+    /// Takes the results of parts that were asked for, within the capacity: the packets that came are held from now on,
     /// and the attempts are counted. The entries of what becomes whole are merged into the catalogue together, and
-    /// those of what is withdrawn are removed together. It takes no memory.
+    /// those of what is withdrawn are removed together. It allocates nothing.
     ///
     /// Digests over contents that are given, in order of their publications, aren't made again.
     pub fn take(&mut self, all: Vec<Tried>, digests: &[ContentsDigest]) -> Taken

@@ -50,11 +50,11 @@ impl Whole<'_> {
 }
 
 impl Holdings {
-    /// Publications that become whole by what came for jobs, in order where these are in order of their parts, with
+    /// Publications that become whole by the results of jobs, in order where these are in order of their parts, with
     /// their contents where they lie. So digests over these can be made before the packets are taken, and be given to
     /// `take`.
     ///
-    /// Only publications are among them of which segments came, all of them beside each other. The others are listed by
+    /// Only publications are among them of which segments came, all of them adjacent. The others are listed by
     /// `take` all the same.
     pub fn whole_with<'a>(
         &'a self,
@@ -168,7 +168,7 @@ impl Holdings {
     }
 }
 
-// What came for the job of a place.
+// The result of the job of a place.
 fn came_at<'s, 'a>(parts: &'s [Option<Checked<'a>>], place: usize) -> Option<&'s Checked<'a>>
     ensures { IfSome result (λ checked. slice_get parts.now place ≡ Some (Some checked.now)) }
 {

@@ -13,7 +13,7 @@ use crate::refusals::PublishRefusal;
 use repo_object::Object;
 use repo_process::BlockState;
 
-/// What came of a block of an insertion.
+/// The result of a block of an insertion.
 #[derive(Debug, Drop)]
 pub enum Blocked {
     /// There is no such process, or none of its blocks has that index.

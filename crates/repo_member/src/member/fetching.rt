@@ -33,7 +33,7 @@ impl HasParts for Member {
 
 impl Member {
     /// The fetcher claims the least part that is wanted and that no fetcher claims, or none where there is none. It
-    /// takes no memory.
+    /// allocates nothing.
     pub fn claim(&mut self, f: u8) -> Result<Option<Part>, FetcherBusy>
         requires { IsFetcher f }
         ensures idle { IsOk result ↔ (claim_of (member_plan self.old) f ≡ None) }
@@ -45,7 +45,7 @@ impl Member {
         self.held.claim(f)
     }
 
-    /// The fetcher's claim ends, and its part can be claimed again. It takes no memory.
+    /// The fetcher's claim ends, and its part can be claimed again. It allocates nothing.
     pub fn lose(&mut self, f: u8) -> Result<Part, FetcherIdle>
         requires { IsFetcher f }
         ensures busy { IfOk result (λ part. claim_of (member_plan self.old) f ≡ Some part) }
@@ -56,7 +56,7 @@ impl Member {
         self.held.release(f)
     }
 
-    /// The part that the fetcher claims, if it claims one. It takes no memory.
+    /// The part that the fetcher claims, if it claims one. It allocates nothing.
     pub fn claimed(&self, f: u8) -> Option<Part>
         requires { IsFetcher f }
         ensures { result ≡ claim_of (member_plan self.now) f }

@@ -22,7 +22,7 @@ pub struct FetchCounts {
 }
 
 impl Member {
-    /// Takes what came of a fetch that was planned: for each job its packet, if one came, and how often it was tried.
+    /// Takes the result of a fetch that was planned: for each job its packet, if any, and how often it was tried.
     ///
     /// The answer is how many parts the member holds from now on and did not hold. There is no memory for more than a
     /// `u32` counts.
@@ -43,7 +43,7 @@ impl Member {
         Ok(kept.parts)
     }
 
-    /// Publications that become whole by what came of a fetch, with their contents where they lie. Their digests can be
+    /// Publications that become whole by the result of a fetch, with their contents as they lie. Their digests can be
     /// made before the packets are taken.
     pub fn whole_with<'a>(
         &'a self,
@@ -58,7 +58,7 @@ impl Member {
         self.held.whole_with(alloc, jobs, parts)
     }
 
-    /// Takes what came of a fetch, as `take_outcome` does. Digests over contents that are given, in order of their
+    /// Takes the result of a fetch, as `take_outcome` does. Digests over contents that are given, in order of their
     /// publications, aren't made again.
     pub fn take_digested(
         &mut self,
@@ -82,7 +82,7 @@ impl Member {
         Ok(FetchCounts { parts, octets })
     }
 
-    // What came of a fetch that was planned, with its packets as they are kept.
+    // The result of a fetch that was planned, with its packets as they are kept.
     fn tried(
         &self,
         g: &Group,

@@ -22,14 +22,14 @@ use svs_vector::Vector;
 pub enum Fire {
     /// It is not due yet.
     Early,
-    /// It is due, and others have reported what it knows.
+    /// It is due, and others have sent what it knows.
     Quiet,
     /// It sends this sync Interest.
     Sent(Vec<u8>),
 }
 
 impl Member {
-    /// The member hears a sync Interest: it knows from now on what it knew and what is reported, and its machine is
+    /// The member hears a sync Interest: it knows from now on what it knew and what that says, and its sync state is
     /// informed of the vector too.
     pub fn hear(
         &mut self,
@@ -67,7 +67,7 @@ impl Member {
         mode
     }
 
-    /// The member learns what a sync Interest tells, as `hear` does, and its machine isn't informed of it.
+    /// The member learns the vector of a sync Interest, as `hear` does, and its sync state isn't informed of it.
     ///
     /// The answer is whether the member knows of more than before.
     pub fn join_from(&mut self, g: &Group, octets: &[u8]) -> Result<bool, HearRefusal>
@@ -113,7 +113,7 @@ impl Member {
         Ok(fire)
     }
 
-    /// The sync Interest that tells what the member knows now.
+    /// The sync Interest of what the member knows now.
     pub fn sync(&self, alloc: Global, g: &Group) -> Result<Vec<u8>, AllocError>
         requires { IsOfGroup g.now self.now }
         ensures { IfOk result (λ sync. sync.items ≡ sync_of g.now self.now.number self.now.known) }
@@ -139,7 +139,7 @@ impl Member {
         Ok(received.to_vector(*self.log.allocator())?)
     }
 
-    // No more publications of this member are reported than it made.
+    // The vector has no more publications of this member than it made.
     fn not_ahead(&self, received: u16) -> Result<(), HearRefusal>
         ensures ok { OnOk result (received ≤ length self.now.log) }
         ensures ahead { IfErr result (λ refusal.
@@ -156,7 +156,7 @@ impl Member {
     }
 }
 
-// What is reported is known from now on. The answer is whether more is known than before.
+// The vector is learnt. The answer is whether more is known than before.
 fn learn(vector: &mut Vector, held: &mut Holdings, received: &Vector) -> bool
     requires width { length received.now ≡ length vector.old }
     requires few { length received.now ≤ node_limit }
@@ -171,7 +171,7 @@ fn learn(vector: &mut Vector, held: &mut Holdings, received: &Vector) -> bool
     vector.join(received)
 }
 
-// The sync Interest by which a member tells a vector.
+// The sync Interest of a member with a vector.
 pub(super) fn sync_of(
     alloc: Global,
     g: &Group,

@@ -1,4 +1,4 @@
-// What came of a fetch that a mirror planned.
+// The result of a fetch that a mirror planned.
 ghost use Rattle.std.specs.Prelude.{◌≡◌, ◌<◌, ◌^◌, length, vec_len};
 ghost use Rattle.std.specs.Prelude.{map, count_by, is_some, List, max};
 ghost use Rattle.std.specs.Prelude.{IfOk, IfSome, OnOk, OnErr, option_map};
@@ -26,7 +26,7 @@ use repo_object::{Checked, Job};
 use repo_watch::{Filter, Pattern};
 use std::alloc::{AllocError, Global};
 
-// What came of jobs: what is kept, and the publications that are passed over, in order.
+// The results of jobs: what is kept, and the publications that are passed over, in order.
 #[derive(Drop)]
 struct Sorted {
     kept: Vec<Tried>,
@@ -34,9 +34,9 @@ struct Sorted {
 }
 
 impl Mirror {
-    /// Takes what came of a fetch that was planned: for each job its packet, if one came, and how often it was tried.
-    /// The answer is how many parts came. Those are held from now on, but for the records of objects that the mirror's
-    /// pattern isn't for, which are passed over. There is no memory for more jobs than a `u32` counts.
+    /// Takes the result of a fetch that was planned: for each job its packet, if any, and how often it was tried.
+    /// The answer is how many parts came. Those are held from now on, except the records of objects that the mirror's
+    /// pattern doesn't accept, which are passed over. There is no memory for more jobs than a `u32` counts.
     pub fn take_outcome(
         &mut self,
         filter: &Filter,
@@ -57,7 +57,7 @@ impl Mirror {
         Ok(number_that_came(parts))
     }
 
-    // What came of jobs, with their packets as they are kept, sorted into what is kept and what is passed over.
+    // The results of jobs, with their packets as they are kept, sorted into what is kept and what is passed over.
     fn sorted(
         &self,
         filter: &Filter,
@@ -101,7 +101,7 @@ fn number_that_came(parts: &[Option<Checked<'_>>]) -> u32
     parts.iter().filter(|part| part.is_some()).count() as u32
 }
 
-// What came of a job, with its packet as it is kept.
+// The result of a job, with its packet as it is kept.
 fn tried(
     alloc: Global,
     job: &Job,
@@ -143,7 +143,7 @@ fn arrived(alloc: Global, checked: &Checked<'_>) -> Result<Arrival, AllocError>
     Arrival::new(alloc, checked.part(), packet)
 }
 
-// Whether what came is kept: all but the record of an object that the pattern isn't for.
+// Whether a result is kept: all but the record of an object that the pattern doesn't accept.
 fn is_for(filter: &Filter, pattern: &Pattern, tried: &Tried) -> bool
     requires { IfSome tried.now.arrival (λ a. a.summary ≡ summary_in tried.now.part a.packet) }
     ensures { result ≡ is_fetch_for pattern.now (came tried.now) }

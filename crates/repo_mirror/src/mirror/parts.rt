@@ -17,7 +17,7 @@ impl HasParts for Mirror {
 }
 
 impl Mirror {
-    /// The octets of the packet of a part that the mirror stores. It takes no memory.
+    /// The octets of the packet of a part that the mirror stores. It allocates nothing.
     pub fn packet(&self, part: Part) -> Option<&[u8]>
         ensures { option_map (λ octets. octets.now) result ≡ value_of part_cmp self.now.store part }
     {

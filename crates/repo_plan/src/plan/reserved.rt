@@ -12,9 +12,9 @@ use sorted_lists::table;
 use std::alloc::AllocError;
 
 impl Plan {
-    /// Makes room for `n` calls that end in `_reserved`, unless there is room for so many already.
+    /// Reserves capacity for `n` calls that end in `_reserved`, unless there is as much already.
     ///
-    /// Each such call does what the call without this ending does, takes no memory, and uses up the room for one, also
+    /// Such a call does what the call without this ending does, allocates nothing, and uses up capacity for one, also
     /// where it finds nothing to do. What is spare stays so in all other calls.
     pub fn reserve(&mut self, n: usize) -> Result<(), AllocError>
         ensures ok { OnOk result (self.new ≡ with_room n self.old) }
@@ -30,7 +30,7 @@ impl Plan {
         Ok(())
     }
 
-    // Makes room for one more than there is room for.
+    // Makes the capacity greater by one.
     pub(super) fn reserve_one_more(&mut self) -> Result<(), AllocError>
         ensures ok { OnOk result (self.new ≡ with_room (self.old.spare + 1) self.old) }
         ensures err { OnErr result (self.new ≡ self.old) }

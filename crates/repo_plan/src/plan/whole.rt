@@ -7,7 +7,7 @@ ghost use Rattle.repo_plan.specs.PlanFields.{PartIsNoted};
 use crate::shape::Shape;
 use sorted_lists::{Runs, SortedMap};
 
-// Notes what a record tells, if the part that is held now is one.
+// Notes what a record says, if the part that is held now is one.
 pub(super) fn note_shape(
     shapes: &mut SortedMap<(u32, u16), Shape>,
     publication: (u32, u16),

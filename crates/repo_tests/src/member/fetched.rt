@@ -35,7 +35,7 @@ fn joins_what_alice_reports(rt: &impl Abort, g: &Group, bob: &mut Member) {
     same(rt, bob.join_from(g, &FROM_ALICE), Ok(false), "join from");
 }
 
-// The machine wasn't informed: it is steady, and has used its first draw alone.
+// The sync state wasn't informed: it is steady, and has used its first draw alone.
 fn knows_of_one_publication(rt: &impl Abort, bob: &Member) {
     let vector = bob.vector();
     assert_eq!(rt; vector.members(), 3);

@@ -1,4 +1,4 @@
-// Octets that are handed in for the worked record and segment, each after a line that says what they are, and with the
+// Octets that are given for the worked record and segment, each after a line that says what they are, and with the
 // first reason why they don't pass, if there is one.
 
 pub(super) const FOR_THE_SEGMENT: &str = "\

@@ -111,7 +111,7 @@ impl RunState {
         Ok(())
     }
 
-    // Lets the mirror of a label fetch, and writes what came.
+    // Lets the mirror of a label fetch, and writes what it got.
     pub(super) fn mirror_fetch<N: Net + Sync, D: Draws, R: Threads + Sync>(
         &mut self,
         rt: &R,

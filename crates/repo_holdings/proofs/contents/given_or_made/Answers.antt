@@ -21,7 +21,7 @@ record AreOver (contents : List ℕ) (d : ContentsDigest) : Type 0 where
   octets : d.octets ≡ length contents
   digest : d.digest ≡ sha256 contents
 
--- what is reported of a publication that is stored wholly
+-- what is reported of a publication that is stored whole
 stated_over : (o : Option Entry) (d : ContentsDigest) (contents : List ℕ) → IfSome o (IsDigestOfEntry d)
     → IsSomeAnd o (IsOver contents) → AreOver contents d
 stated_over None d contents made over = absurd over
