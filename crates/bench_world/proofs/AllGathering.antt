@@ -10,13 +10,13 @@ use Rattle.sorted_lists.specs.SortedList.{keys, contains, Rises}
 use Rattle.repo_plan.specs.Parts.{pair_cmp, part_cmp, pair_of}
 use Rattle.repo_plan.proofs.Orders.{exact_parts}
 use Rattle.sorted_lists.proofs.Sets.{rises_filter, or_swap}
+use Rattle.sorted_lists.proofs.Members.{in_filtered}
 use Rattle.group_model.specs.Publications.{all_parts}
 use Rattle.group_model.specs.Member.{Member, member_holds, has_deleted, insert_keys}
 use Rattle.group_model.specs.World.{World, no_member, member, logs, someone_holds}
 use Rattle.group_model.specs.Settles.{learnt_member, IsGathering}
 use Rattle.group_model.specs.Sound.{IsSoundGroup, IsSoundMember}
 use Rattle.group_model.specs.Steps.{is_gained, new_parts, settled_member, settle_new_parts}
-use Rattle.group_model.proofs.Lists.{from_filter}
 use Rattle.group_model.proofs.Parts.{all_parts_rise}
 use Rattle.group_model.proofs.Settles.{comes}
 use Rattle.repo_member.specs.Groups.{GroupKeys}
@@ -66,7 +66,7 @@ came_sum w m held weight n count =
     ≡ sum_by weight (new_parts w m) + sum_by weight m.held =
     sum_insert_keys weight (new_parts w m) m.held
     (rises_filter exact_parts.total (is_gained w m) (all_parts (logs w)) (all_parts_rise (logs w))) held
-    (λ t i. (comes w m t (from_filter (is_gained w m) (all_parts (logs w)) t i).1).fresh) in
+    (λ t i. (comes w m t (in_filtered (is_gained w m) (all_parts (logs w)) t i).1).fresh) in
     omega (arith, count, more)
 
 -- ---- all of them, one after another

@@ -7,6 +7,7 @@ use Rattle.std.proofs.lemmas.List.{length-map, length-set, get_or-map, get_or-se
 use Rattle.std.proofs.lemmas.List.{get_or_default}
 use Rattle.repo_plan.specs.declared.part.Part.{Part}
 use Rattle.sorted_lists.specs.SortedList.{keys, contains}
+use Rattle.sorted_lists.proofs.Members.{in_at, in_filtered}
 use Rattle.repo_plan.specs.Parts.{Pair, pair_cmp, part_cmp, pair_of, record_of}
 use Rattle.group_model.specs.Publications.{all_parts}
 use Rattle.group_model.specs.Member.{Member, member_holds, has_deleted}
@@ -16,7 +17,7 @@ use Rattle.group_model.specs.Steps.{settled_member, settled_vector, new_parts, i
 use Rattle.group_model.specs.Sound.{IsSoundGroup}
 use Rattle.group_model.proofs.Among.{in_all_parts}
 use Rattle.group_model.proofs.Gains.{held_either}
-use Rattle.group_model.proofs.Lists.{at_in, from_filter, in_at}
+use Rattle.group_model.proofs.Lists.{at_in}
 use Rattle.group_model.proofs.Members.{known_published}
 use Rattle.group_model.proofs.Settles.{someone, holder, comes, gets, keeps_held, knows_settled}
 use Rattle.repo_member.specs.MemberState.{MemberState}
@@ -237,7 +238,7 @@ module _ (w : World) (group : IsSoundGroup w) where
       → member_holds (settled_member w (member w j)) t ≡ true → someone_holds w.members t ≡ true
   settled_someone j t l h = elim (held_either (new_parts w (member w j)) (member w j) t h) [
     | inl i ↦
-        (comes w (member w j) t (from_filter (is_gained w (member w j)) (all_parts (logs w)) t i).1).someones
+        (comes w (member w j) t (in_filtered (is_gained w (member w j)) (all_parts (logs w)) t i).1).someones
     | inr was ↦ here_someone w.members j t l was
   ]
 

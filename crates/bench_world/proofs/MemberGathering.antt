@@ -10,6 +10,7 @@ use Rattle.sorted_lists.specs.SortedList.{keys, value_of}
 use Rattle.repo_plan.specs.Parts.{part_cmp, pair_of, record_of}
 use Rattle.repo_plan.specs.Plan.{PlanState, no_claims, is_wanted, is_unclaimed, is_claimed, is_claim_of}
 use Rattle.sorted_lists.proofs.Sets.{in_filter}
+use Rattle.sorted_lists.proofs.Members.{in_at}
 use Rattle.group_model.specs.Publications.{Logs, all_parts}
 use Rattle.group_model.specs.Member.{Member, member_holds, has_deleted}
 use Rattle.group_model.specs.World.{World, no_member, member, logs, someone_holds}
@@ -18,7 +19,6 @@ use Rattle.group_model.specs.Steps.{settled_vector, settled_member, is_gained, n
 use Rattle.group_model.specs.Sound.{IsSoundGroup, IsSoundMember}
 use Rattle.group_model.proofs.Among.{in_all_parts}
 use Rattle.group_model.proofs.Gains.{held_too, held_new}
-use Rattle.group_model.proofs.Lists.{in_at}
 use Rattle.group_model.proofs.Members.{known_published}
 use Rattle.group_model.proofs.Plans.{wanted_parts}
 use Rattle.group_model.proofs.PublicLaws.{gathering_settles}

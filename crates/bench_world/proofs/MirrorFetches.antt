@@ -11,13 +11,13 @@ use Rattle.sorted_lists.specs.SortedList.{Rises}
 use Rattle.sorted_lists.specs.Range.{numbers_from}
 use Rattle.sorted_lists.proofs.Ranges.{from_numbers}
 use Rattle.sorted_lists.proofs.Sets.{In, from_map, rises_filter}
+use Rattle.sorted_lists.proofs.Members.{in_filtered}
 use Rattle.repo_object.specs.declared.job.Job.{Job}
 use Rattle.repo_object.specs.Verdict.{CheckedPart}
 use Rattle.repo_holdings.specs.HoldingsState.{HoldingsState, held_plan}
 use Rattle.repo_holdings.specs.Taking.{Fetched, with_all_tries}
 use Rattle.group_model.specs.Publications.{Logs}
 use Rattle.group_model.specs.Member.{tries_of, with_each_tried, with_tries}
-use Rattle.group_model.proofs.Lists.{from_filter}
 use Rattle.group_model.proofs.Tries.{each_tried_at}
 use Rattle.repo_member.specs.Groups.{GroupKeys}
 use Rattle.repo_member.specs.MemberState.{MemberState}
@@ -105,7 +105,7 @@ module _ (passes : Part → ℕ → Bool) (others : List MemberState) (tries : �
   kept_tries q ts more each =
       all_from_in (λ (x : Fetched). x.attempts ≡ more x.part) (filter q (fetched_all passes others tries h ts)) (λ x i.
       let r =
-      from_map (fetched_one passes others tries h) ts x (from_filter q (fetched_all passes others tries h ts) x i).0 in
+      from_map (fetched_one passes others tries h) ts x (in_filtered q (fetched_all passes others tries h ts) x i).0 in
       subst (λ (y : Fetched). y.attempts ≡ more y.part) (sym r.2) (each r.0))
 
   -- However what came is sorted, no part has been tried much more often.

@@ -16,6 +16,7 @@ use Rattle.repo_plan.specs.declared.part.Part.{Part}
 use Rattle.repo_plan.specs.Parts.{Pair, pair_of}
 use Rattle.sorted_lists.specs.Range.{numbers_from}
 use Rattle.sorted_lists.proofs.Ranges.{length-numbers}
+use Rattle.sorted_lists.proofs.Members.{in_filtered}
 use Rattle.repo_object.specs.declared.part_refusal.PartRefusal.{PartRefusal}
 use Rattle.repo_object.specs.Verdict.{ring_verdict}
 use Rattle.repo_process.specs.Processes.{BlockState}
@@ -30,7 +31,6 @@ use Rattle.group_model.specs.Wanted.{IsWantedPart, HoldsRecords}
 use Rattle.group_model.specs.World.{Environment, World, member, logs, sent_at, catalogue_at}
 use Rattle.group_model.specs.Steps.{catalogue_totals, all_totals, claim_at, to_claim, timer_at, mode_at, after_deliver}
 use Rattle.group_model.specs.Steps.{response_from, passes_checks, next_seq_at, next_sync, block_at, hear_outcome}
-use Rattle.group_model.proofs.Lists.{from_filter}
 use Rattle.group_model.proofs.Members.{known_published}
 use Rattle.group_model.proofs.Parts.{publisher_within, in_published}
 use Rattle.group_model.proofs.PublicLaws.{tests_those, claims_first}
@@ -150,7 +150,7 @@ module _ (n : ℕ) where
         (all_from_in (λ (p : Publication). p.publisher < n) (catalogued (logs w) (member w m)) (λ p i.
         is_member (pair_in p)
         (in_published (logs w) p
-        (from_filter (is_listed (published (logs w)) (member w m)) (published (logs w)) p i).0).there))
+        (in_filtered (is_listed (published (logs w)) (member w m)) (published (logs w)) p i).0).there))
 
     of_refusal : (octets : List ℕ) → IfErr (group_verdict g octets) (SyncNamesMember n)
     of_refusal octets =

@@ -13,9 +13,8 @@ use Rattle.repo_plan.specs.Parts.{part_cmp}
 use Rattle.repo_plan.specs.Plan.{is_unclaimed, unclaimed, is_after}
 use Rattle.repo_plan.proofs.Orders.{exact_parts}
 use Rattle.sorted_lists.proofs.Sets.{In, in_filter, contains_in, in_contains, rises_filter}
-use Rattle.sorted_lists.proofs.Members.{filter_whole}
+use Rattle.sorted_lists.proofs.Members.{filter_whole, in_at, in_filtered, in_take}
 use Rattle.repo_plan.proofs.Known.{unclaimed_rises, contains-unclaimed}
-use Rattle.group_model.proofs.Lists.{from_filter, in_at, in_take}
 use Rattle.group_model.proofs.Tries.{rises_take, take_short}
 use Rattle.repo_holdings.specs.HoldingsState.{HoldingsState, held_plan}
 use Rattle.repo_member.specs.MemberState.{MemberState}
@@ -74,7 +73,7 @@ module _ (h : HoldingsState) (after : Option Part) where
 
   pub from_later : (t : Part) → In t later_parts → (is_unclaimed (held_plan h) t ≡ true) × (is_after after t ≡ true)
   from_later t i =
-      let r = from_filter (is_after after) (unclaimed (held_plan h)) t i in
+      let r = in_filtered (is_after after) (unclaimed (held_plan h)) t i in
       (sym (contains-unclaimed (held_plan h) t) ∙ contains_in exact_parts (unclaimed (held_plan h)) t r.0, r.1)
 
   -- ---- of a fetch
@@ -98,7 +97,7 @@ module _ (h : HoldingsState) (after : Option Part) where
     lent_parts = filter (lends others) later_parts
 
     from_lent : (t : Part) → In t (next_lent others after h) → In t later_parts × (lends others t ≡ true)
-    from_lent t i = from_filter (lends others) later_parts t (in_take 4096 lent_parts t i)
+    from_lent t i = in_filtered (lends others) later_parts t (in_take 4096 lent_parts t i)
 
     pub lent_asked : AreAsked h (next_lent others after h)
     lent_asked = record {

@@ -12,11 +12,12 @@ use Rattle.repo_plan.specs.Plan.{is_wanted, is_unclaimed, is_after, attempts_of}
 use Rattle.repo_plan.proofs.Orders.{exact_parts}
 use Rattle.sorted_lists.specs.SortedList.{value_of}
 use Rattle.sorted_lists.proofs.Sets.{In, from_map, contains_in, in_contains, rises_filter}
+use Rattle.sorted_lists.proofs.Members.{in_filtered}
 use Rattle.repo_holdings.specs.HoldingsState.{held_plan}
 use Rattle.repo_holdings.specs.Taking.{Fetched}
 use Rattle.group_model.specs.Publications.{Logs, all_parts}
 use Rattle.group_model.specs.Member.{insert_keys}
-use Rattle.group_model.proofs.Lists.{from_filter, contains-insert_keys, rises_insert_keys}
+use Rattle.group_model.proofs.Lists.{contains-insert_keys, rises_insert_keys}
 use Rattle.group_model.proofs.Parts.{all_parts_rise}
 use Rattle.group_model.proofs.Among.{in_all_parts}
 use Rattle.group_model.proofs.SortedSets.{same_members, shorter}
@@ -141,7 +142,7 @@ module _ {H : Type 0} (words : HolderPredicates H) (holders : AreHolders words) 
         came = λ t h. elim
             (or_cases (contains part_cmp (filter (lends others) ts) t) (has words a t) (sym (taken_has t) ∙ h)) [
               | inl new ↦
-                  inr (from_filter (lends others) ts t (in_contains exact_parts (filter (lends others) ts) t new)).1
+                  inr (in_filtered (lends others) ts t (in_contains exact_parts (filter (lends others) ts) t new)).1
               | inr was ↦ inl was
             ];
         hidden = holders.hidden_stays (lent_all others ts) a;
@@ -151,7 +152,7 @@ module _ {H : Type 0} (words : HolderPredicates H) (holders : AreHolders words) 
       not_held t i =
           holders.not_held a t
           (and_parts (is_wanted (held_plan (words.holdings a)) t) _
-          (all_open t (from_filter (lends others) ts t i).0)).0
+          (all_open t (in_filtered (lends others) ts t i).0)).0
 
       -- What is held grows by what came, however parts count.
       pub phase_counts : (weight : Part → ℕ) → Rises part_cmp ts

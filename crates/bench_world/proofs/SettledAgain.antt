@@ -8,6 +8,7 @@ use Rattle.repo_plan.specs.declared.part.Part.{Part}
 use Rattle.repo_plan.specs.Parts.{pair_of, record_of}
 use Rattle.repo_plan.specs.Plan.{no_claims, is_wanted}
 use Rattle.sorted_lists.proofs.Sets.{In, in_map, from_map}
+use Rattle.sorted_lists.proofs.Members.{in_at, in_filtered}
 use Rattle.group_model.specs.Publications.{Logs}
 use Rattle.group_model.specs.Member.{Member, member_holds, plan_of, catalogue}
 use Rattle.group_model.specs.World.{World, no_member, member, logs, logs_of, someone_holds}
@@ -18,7 +19,7 @@ use Rattle.group_model.specs.Steps.{after_settle}
 use Rattle.group_model.specs.Publications.{all_parts}
 use Rattle.group_model.proofs.Among.{in_all_parts}
 use Rattle.group_model.proofs.Gains.{held_fresh}
-use Rattle.group_model.proofs.Lists.{from_filter, in_at, at_in}
+use Rattle.group_model.proofs.Lists.{at_in}
 use Rattle.group_model.proofs.Members.{known_published}
 use Rattle.group_model.proofs.Plans.{IsWanted, wanted_parts}
 use Rattle.group_model.proofs.PublicLaws.{gathering_settles}
@@ -43,7 +44,7 @@ holder_packet_response w m t h = elim (cases_Bool (member_holds m t)) [
   | inl was ↦ inl was
   | inr fresh ↦
       inr (comes w m t
-      (from_filter (is_gained w m) (all_parts (logs w)) t (held_fresh (new_parts w m) m t h fresh)).1).someones
+      (in_filtered (is_gained w m) (all_parts (logs w)) t (held_fresh (new_parts w m) m t h fresh)).1).someones
 ]
 
 module _ (w : World) (new : List Member) (group : IsSoundGroup w) (partly : ArePartlySettled w new)

@@ -9,6 +9,7 @@ use Rattle.std.proofs.lemmas.Bool.{or_right}
 use Rattle.std.proofs.lemmas.List.{length-set, get_or-set_same}
 use Rattle.sorted_lists.specs.SortedList.{contains}
 use Rattle.sorted_lists.proofs.Sets.{in_contains, eq_same, eq_itself, contains-insert_key, contains-filter}
+use Rattle.sorted_lists.proofs.Members.{in_filtered}
 use Rattle.repo_plan.specs.declared.part.Part.{Part}
 use Rattle.repo_plan.specs.Parts.{Pair, pair_cmp, part_cmp, pair_of, parts_of, last_part}
 use Rattle.repo_plan.specs.Plan.{is_in}
@@ -33,7 +34,7 @@ use Rattle.group_model.specs.Steps.{after_block}
 use Rattle.group_model.specs.Steps.{drawn, others_of, attempt, fetched_parts, planned_parts, fetches, can_start}
 use Rattle.group_model.specs.Steps.{with_process_at}
 use Rattle.group_model.proofs.Gains.{held_either, held_too}
-use Rattle.group_model.proofs.Lists.{from_filter, contains-insert_keys}
+use Rattle.group_model.proofs.Lists.{contains-insert_keys}
 use Rattle.bench_world.specs.declared.touched.Touched.{Touched}
 use Rattle.bench_world.specs.Touching.{touches, NotesAny}
 use Rattle.bench_world.proofs.Lacking.{KeepsHeld, same_kept, kept_on, Spreads, same_spreads, spreads_on, set_spreads}
@@ -120,7 +121,7 @@ module _ (later : Touched) (w : World) (j : ℕ) (inside : j < length w.members)
       set_spreads later w.members j inside (fetches env w j tries loss (member w j))
       (λ t h. elim (held_either (fetched_parts env w j tries loss) (member w j) t h) [
         | inl came ↦
-            let r = from_filter (λ u. is_some (attempt env w j tries loss u)) (planned_parts w j) t came in
+            let r = in_filtered (λ u. is_some (attempt env w j tries loss u)) (planned_parts w j) t came in
             inl (elim (in_set w.members j no_member t (lent t r.1)) [
               | inl none ↦ absurd (true≢false (sym none))
               | inr was ↦ was

@@ -9,6 +9,7 @@ use Rattle.std.proofs.lemmas.List.Sums.{sum_by-le}
 use Rattle.sorted_lists.specs.Range.{numbers_from}
 use Rattle.sorted_lists.proofs.Ranges.{length-numbers, number_at}
 use Rattle.sorted_lists.proofs.Sets.{In, from_map}
+use Rattle.sorted_lists.proofs.Members.{in_at, in_filtered}
 use Rattle.repo_object.specs.Objects.{IsContent, Post, IsPost, offered}
 use Rattle.repo_object.specs.Objects.Post.{Offers, Withdraws}
 use Rattle.repo_catalog.specs.declared.entry.Entry.{Entry}
@@ -18,7 +19,6 @@ use Rattle.group_model.specs.Replies.{CatalogueTotals}
 use Rattle.group_model.specs.World.{catalogue_at, member}
 use Rattle.group_model.specs.Steps.{all_totals, catalogue_totals}
 use Rattle.group_model.proofs.Parts.{IsIn, in_published}
-use Rattle.group_model.proofs.Lists.{from_filter, in_at}
 use Rattle.group_model.proofs.Tries.{filter_short}
 use Rattle.repo_member.specs.MemberState.{MemberState}
 use Rattle.repo_member.specs.InGroup.{in_group}
@@ -80,11 +80,11 @@ module _ (s : GroupState) (is : IsConsistentState s) where
       let segments : sum_by (λ e. e.segments) (catalogue (logs_around s.members) m)
       ≤ length (catalogue (logs_around s.members) m) * 20000 =
       sum_few (λ e. e.segments) 20000 (catalogued (logs_around s.members) m)
-      (λ q i. few_segments q.seq q.post (post_of q (from_filter (is_listed all m) all q i).0)) in
+      (λ q i. few_segments q.seq q.post (post_of q (in_filtered (is_listed all m) all q i).0)) in
       let octets : sum_by (λ e. e.octets) (catalogue (logs_around s.members) m)
       ≤ length (catalogue (logs_around s.members) m) * 160000000 =
       sum_few (λ e. e.octets) 160000000 (catalogued (logs_around s.members) m)
-      (λ q i. few_octets q.seq q.post (post_of q (from_filter (is_listed all m) all q i).0)) in
+      (λ q i. few_octets q.seq q.post (post_of q (in_filtered (is_listed all m) all q i).0)) in
       record {
         entries = omega (arith, steps, most, kept, same);
         segments = omega (arith, steps, most, kept, same, segments);

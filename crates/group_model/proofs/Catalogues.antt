@@ -15,6 +15,8 @@ use Rattle.repo_plan.proofs.Orders.{exact_parts, exact_pairs}
 use Rattle.sorted_lists.proofs.Orders.{nat_less, nat_itself, first_less, then_second}
 use Rattle.sorted_lists.proofs.Sets.{In, contains_in, in_contains, in_append, in_filter, in_map, from_map, before_each}
 use Rattle.sorted_lists.proofs.Sets.{rises_append, rises_filter, eq_same, eq_itself}
+use Rattle.sorted_lists.proofs.Members.{in_filtered}
+use Rattle.repo_plan.proofs.Whole.{each_all, all_in}
 use Rattle.repo_catalog.specs.declared.entry.Entry.{Entry}
 use Rattle.repo_catalog.specs.Entries.{publication_of, is_of, lists}
 use Rattle.repo_object.specs.Objects.{Post, withdraws_number}
@@ -26,7 +28,7 @@ use Rattle.group_model.specs.World.{member, logs, catalogue_at}
 use Rattle.group_model.specs.Sound.{IsSoundMember, IsPublished, IsDeletedSoundly}
 use Rattle.group_model.specs.Catalogues.{HoldsNoWithdrawal, BelongsInCatalogue, ListsThose, ListsInOrder}
 use Rattle.group_model.specs.Catalogues.{JoinListsThose, JoinListsInOrder}
-use Rattle.group_model.proofs.Lists.{same_any, any_in, none_in, from_filter, each_all, all_in}
+use Rattle.group_model.proofs.Lists.{same_any, any_in, none_in}
 use Rattle.group_model.proofs.Parts.{from_numbered, IsIn, in_published, IsPartOf, from_parts_in, in_parts_in}
 use Rattle.group_model.proofs.Parts.{from_all_parts}
 use Rattle.group_model.proofs.Among.{at_pair, is_published, in_all_parts}
@@ -131,7 +133,7 @@ entered ls f pair h =
     let e : (x : Entry) × IsFoundIn (is_of pair) es x = finds (is_of pair) es h in
     let q : (q : Publication) × (In q (filter f (published ls))) × (e.0 ≡ published_entry q) =
     from_map published_entry (filter f (published ls)) e.0 e.1.among in
-    let g : In q.0 (published ls) × (f q.0 ≡ true) = from_filter f (published ls) q.0 q.1 in
+    let g : In q.0 (published ls) × (f q.0 ≡ true) = in_filtered f (published ls) q.0 q.1 in
     let there : IsIn ls q.0 = in_published ls q.0 g.0 in
     let same : pair ≡ pair_in q.0 = eq_same exact_pairs pair (pair_in q.0) (ap (is_of pair) (sym q.2) ∙ e.1.passes) in
     record {

@@ -10,6 +10,8 @@ use Rattle.repo_plan.specs.Plan.{is_in}
 use Rattle.repo_plan.proofs.Orders.{exact_parts, exact_pairs}
 use Rattle.sorted_lists.proofs.Sets.{In, eq_same, eq_itself, contains-insert_key, contains-filter, rises_insert}
 use Rattle.sorted_lists.proofs.Sets.{rises_filter}
+use Rattle.sorted_lists.proofs.Members.{in_filtered}
+use Rattle.repo_plan.proofs.Whole.{each_all}
 use Rattle.repo_object.specs.Objects.{Post, shape_in}
 use Rattle.group_model.specs.Publications.{Logs, Publication, pair_in, parts_in, published, count, shape_at, is_object}
 use Rattle.group_model.specs.Publications.{object_in}
@@ -17,7 +19,6 @@ use Rattle.group_model.specs.Commands.{is_equal_name}
 use Rattle.group_model.specs.Member.{Member, member_holds, has_deleted, holds_all, catalogued, is_listed}
 use Rattle.group_model.specs.Member.{catalogued_under, deletes_publication, deletes_all}
 use Rattle.group_model.specs.Sound.{IsSoundMember, IsKnown, IsHeldSoundly, IsDeletedSoundly}
-use Rattle.group_model.proofs.Lists.{from_filter, each_all}
 use Rattle.group_model.proofs.Parts.{IsIn, in_published, IsPartOf, in_parts_in}
 use Rattle.group_model.proofs.Plans.{IsWanted, wanted_parts, wanted_from}
 
@@ -149,9 +150,9 @@ pub sound_deletes : (ls : Logs) (j : ℕ) (name : List (ℕ × List ℕ)) (m : M
     → IsSoundMember ls j (deletes_all (catalogued_under ls m name) m)
 sound_deletes ls j name m s = sound_deletes_all ls j (catalogued_under ls m name) m (λ p i.
     let f : In p (catalogued ls m) × (is_equal_name (object_in p).name name ≡ true) =
-    from_filter (λ q. is_equal_name (object_in q).name name) (catalogued ls m) p i in
+    in_filtered (λ q. is_equal_name (object_in q).name name) (catalogued ls m) p i in
     let g : In p (published ls) × (is_listed (published ls) m p ≡ true) =
-    from_filter (is_listed (published ls) m) (published ls) p f.0 in
+    in_filtered (is_listed (published ls) m) (published ls) p f.0 in
     let there : IsIn ls p = in_published ls p g.0 in
     let all_held : holds_all m p ≡ true = (and_parts (holds_all m p) _ (and_parts (is_object p) _ g.1).1).0 in
     let held : (t : Part) → IsPartOf t p → member_holds m t ≡ true =

@@ -8,6 +8,7 @@ use Rattle.repo_plan.specs.Parts.{Pair, part_cmp, pair_of, part_of, record_of, p
 use Rattle.repo_object.specs.Objects.{contents_of}
 use Rattle.repo_plan.proofs.Orders.{exact_parts}
 use Rattle.sorted_lists.proofs.Sets.{In, in_filter, contains_in, in_contains}
+use Rattle.sorted_lists.proofs.Members.{in_at, in_filtered}
 use Rattle.group_model.specs.Publications.{all_parts, shape_at, post_at}
 use Rattle.group_model.specs.Member.{Member, member_holds, has_deleted, insert_keys}
 use Rattle.group_model.specs.World.{World, member, logs, someone_holds}
@@ -15,7 +16,7 @@ use Rattle.group_model.specs.Steps.{settled_vector, settled_member, is_gained, n
 use Rattle.group_model.specs.Sound.{IsSoundGroup, IsSoundMember, IsKnown, IsPublishedPart}
 use Rattle.group_model.specs.Reached.{InSoundGroups}
 use Rattle.group_model.specs.Settles.{learnt_member, IsGathering, HasFetchedAll, GatheringSettles}
-use Rattle.group_model.proofs.Lists.{from_filter, in_at, contains-insert_keys, rises_insert_keys}
+use Rattle.group_model.proofs.Lists.{contains-insert_keys, rises_insert_keys}
 use Rattle.group_model.proofs.Parts.{from_all_parts}
 use Rattle.group_model.proofs.Plans.{IsWanted, wanted_from}
 use Rattle.group_model.proofs.Members.{known_published}
@@ -143,7 +144,7 @@ module _ (w : World) (j : ℕ) (new : Member) (within : j < length w.members) (g
   back t h = elim (or_cases (contains part_cmp (new_parts w m) t) (member_holds m t) h) [
     | inl fresh ↦
         let r : In t (all_parts (logs w)) × (is_gained w m t ≡ true) =
-        from_filter (is_gained w m) (all_parts (logs w)) t (in_contains exact_parts (new_parts w m) t fresh) in
+        in_filtered (is_gained w m) (all_parts (logs w)) t (in_contains exact_parts (new_parts w m) t fresh) in
         has_it t r.0 (comes w m t r.1)
     | inr was ↦ gathering.kept t was
   ]

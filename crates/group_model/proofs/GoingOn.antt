@@ -11,6 +11,7 @@ use Rattle.sorted_lists.specs.SortedList.{contains}
 use Rattle.repo_plan.specs.Plan.{is_in}
 use Rattle.repo_plan.proofs.Orders.{exact_parts, exact_pairs}
 use Rattle.sorted_lists.proofs.Sets.{eq_same, eq_itself, contains-insert_key, contains-filter, In}
+use Rattle.sorted_lists.proofs.Members.{in_filtered}
 use Rattle.repo_object.specs.Objects.{Post, shape_in, offered}
 use Rattle.repo_object.specs.Objects.Post.{Offers, Withdraws}
 use Rattle.group_model.specs.Publications.{Publication, pair_in, last_of, Logs, has_unwithdrawn, published, is_object}
@@ -27,7 +28,6 @@ use Rattle.group_model.proofs.Gains.{held_too, at_set_number}
 use Rattle.group_model.proofs.Worlds.{same_logs}
 use Rattle.group_model.specs.Deletions.{IsOffered}
 use Rattle.group_model.specs.Commands.{is_equal_name}
-use Rattle.group_model.proofs.Lists.{from_filter}
 use Rattle.ndn_name.specs.Names.{Component}
 use Rattle.std.specs.Prelude.{is_some}
 
@@ -231,9 +231,9 @@ moves_deletes ls m name =
       lasts = lasts_deletes_all ps m;
       hides = hides_all ls ps m (λ p i.
           let f : In p (catalogued ls m) × (is_equal_name (object_in p).name name ≡ true) =
-          from_filter (λ q. is_equal_name (object_in q).name name) (catalogued ls m) p i in
+          in_filtered (λ q. is_equal_name (object_in q).name name) (catalogued ls m) p i in
           let g : In p (published ls) × (is_listed (published ls) m p ≡ true) =
-          from_filter (is_listed (published ls) m) (published ls) p f.0 in
+          in_filtered (is_listed (published ls) m) (published ls) p f.0 in
           let there : IsIn ls p = in_published ls p g.0 in
           record {
             published = there.there;

@@ -12,12 +12,13 @@ use Rattle.repo_plan.specs.Parts.{Pair, part_cmp, pair_cmp, pair_of, part_of, re
 use Rattle.repo_plan.specs.Parts.{last_part}
 use Rattle.repo_plan.specs.Plan.{wanted}
 use Rattle.repo_plan.proofs.Known.{contains-wanted}
+use Rattle.repo_plan.proofs.Whole.{each_all, all_in}
 use Rattle.group_model.specs.Publications.{Logs, Publication, pair_in, parts_in, published, published_entry, last_of}
 use Rattle.group_model.specs.Publications.{count, post_at, shape_at, is_object, withdraws, is_unwithdrawn}
 use Rattle.group_model.specs.Member.{Member, plan_of, member_holds, has_deleted, holds_all, is_listed, knows_withdrawn}
 use Rattle.group_model.specs.Sound.{IsKnown}
 use Rattle.group_model.specs.OneMember.{KnowsAll, JoinsByItself}
-use Rattle.group_model.proofs.Lists.{each_all, same_filter, same_any, all_in}
+use Rattle.group_model.proofs.Lists.{same_filter, same_any}
 use Rattle.group_model.proofs.Parents.{parent_within, parent_of_parent}
 use Rattle.group_model.proofs.Parts.{IsIn, in_range, in_published, IsPartOf, from_parts_in, in_parts_in}
 use Rattle.group_model.proofs.Plans.{IsWanted, wanted_from}

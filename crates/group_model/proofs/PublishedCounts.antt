@@ -8,6 +8,7 @@ use Rattle.repo_plan.specs.Parts.{last_part}
 use Rattle.sorted_lists.specs.Range.{numbers_from}
 use Rattle.sorted_lists.proofs.Sets.{In}
 use Rattle.sorted_lists.proofs.Ranges.{length-numbers}
+use Rattle.sorted_lists.proofs.Members.{in_at}
 use Rattle.repo_object.specs.Objects.{Post, contents_of, shape_in}
 use Rattle.repo_object.proofs.IndexLemmas.{index_few}
 use Rattle.group_model.specs.Publications.{Logs, Publication, no_post, numbered_publications, published_from, published}
@@ -16,7 +17,6 @@ use Rattle.group_model.specs.Member.{Member}
 use Rattle.group_model.specs.World.{World, no_member, logs, logs_of}
 use Rattle.group_model.specs.Steps.{is_gained, new_parts}
 use Rattle.group_model.specs.Limits.{IsWithinSteps, PartsStayFew}
-use Rattle.group_model.proofs.Lists.{in_at}
 use Rattle.group_model.proofs.Parts.{in_published}
 use Rattle.group_model.proofs.Tries.{filter_short}
 

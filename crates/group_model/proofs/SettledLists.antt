@@ -18,8 +18,8 @@ use Rattle.group_model.proofs.DeletedObjects.{reached_with_objects_deleted}
 use Rattle.group_model.proofs.Runs.{reached}
 use Rattle.std.specs.Prelude.{is_some}
 use Rattle.group_model.specs.Settles.{IsHeldAmong, ListsWhatIsHeld, ListsWhatIsLeft}
-use Rattle.group_model.proofs.Lists.{from_filter, in_at}
 use Rattle.sorted_lists.proofs.Sets.{In}
+use Rattle.sorted_lists.proofs.Members.{in_at, in_filtered}
 use Rattle.group_model.proofs.Parts.{publisher_within}
 use Rattle.group_model.proofs.Gains.{held_either}
 use Rattle.group_model.proofs.Settles.{someone, settles, comes, knows_settled, keeps_held, gets, logs_settled}
@@ -40,7 +40,7 @@ module _ (w : World) (s : IsSoundGroup w) (j : ℕ) (l : j < length w.members) (
   someones t h = elim (held_either (new_parts w old) old t h) [
     | inl i ↦
         let r : In t (all_parts (logs w)) × (is_gained w old t ≡ true) =
-        from_filter (is_gained w old) (all_parts (logs w)) t i in
+        in_filtered (is_gained w old) (all_parts (logs w)) t i in
         (comes w old t r.1).someones
     | inr was ↦ someone w.members old t (in_at w.members j no_member l) was
   ]

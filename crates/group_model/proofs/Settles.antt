@@ -10,6 +10,8 @@ use Rattle.sorted_lists.specs.SortedList.{contains}
 use Rattle.repo_plan.specs.Parts.{Pair, pair_cmp, pair_of, part_of, record_of, parent, last_part}
 use Rattle.repo_plan.specs.Plan.{no_claims}
 use Rattle.sorted_lists.proofs.Sets.{In, in_filter, in_flat_map, in_map, from_map}
+use Rattle.sorted_lists.proofs.Members.{in_at, in_filtered}
+use Rattle.repo_plan.proofs.Whole.{all_in}
 use Rattle.svs_vector.specs.Vectors.{join, join_all}
 use Rattle.svs_vector.proofs.JoinLemmas.{join-at, length-join, join-[]}
 use Rattle.repo_object.specs.Objects.{Post, contents_of, shape_in}
@@ -21,7 +23,7 @@ use Rattle.group_model.specs.Steps.{settled_vector, settled_member, is_gained, n
 use Rattle.group_model.specs.Steps.{after_settle}
 use Rattle.group_model.proofs.OneMember.{listed_whole}
 use Rattle.group_model.specs.Sound.{IsSoundGroup, IsSoundMember, IsPublishedPart, IsWithinLogs}
-use Rattle.group_model.proofs.Lists.{from_filter, all_in, in_at, at_in, rises_insert_keys}
+use Rattle.group_model.proofs.Lists.{at_in, rises_insert_keys}
 use Rattle.group_model.proofs.Parents.{parent_within}
 use Rattle.group_model.proofs.Among.{in_all_parts}
 use Rattle.group_model.proofs.Parts.{IsIn, in_published, publisher_within, IsPartOf, from_parts_in, from_all_parts}
@@ -188,7 +190,7 @@ module _ (w : World) (s : IsSoundGroup w) (j : ℕ) (within : j < length w.membe
       → In t (all_parts (logs w)) × IsGained w old t
   came t h o =
       let r : In t (all_parts (logs w)) × (is_gained w old t ≡ true) =
-      from_filter (is_gained w old) (all_parts (logs w)) t (held_fresh (new_parts w old) old t h o) in
+      in_filtered (is_gained w old) (all_parts (logs w)) t (held_fresh (new_parts w old) old t h o) in
       (r.0, comes w old t r.1)
 
   gain : Gain (logs w) old new

@@ -7,6 +7,7 @@ use Rattle.std.proofs.lemmas.Bool.{true≢false, and_parts, not-true, leb-true, 
 use Rattle.std.proofs.lemmas.Bool.{false_from_ne_true}
 use Rattle.std.proofs.lemmas.List.{get_or-map, length_push}
 use Rattle.sorted_lists.specs.Range.{numbers_from}
+use Rattle.sorted_lists.proofs.Members.{in_at}
 use Rattle.repo_object.specs.Objects.{Post, offered, withdraws_number}
 use Rattle.repo_object.specs.Objects.Post.{Offers, Withdraws}
 use Rattle.svs_sync.specs.Suppression.{periodic}
@@ -19,7 +20,7 @@ use Rattle.group_model.specs.Refusals.{EventsAreTaken}
 use Rattle.group_model.specs.Sound.{IsSoundGroup, IsPublished}
 use Rattle.group_model.specs.Reached.{InSoundGroups, InReachedGroups}
 use Rattle.group_model.specs.Withdrawals.{WithdrawsRightly, AllWithdrawRightly, BeginsRightly, StaysRightly}
-use Rattle.group_model.proofs.Lists.{any_in, in_at}
+use Rattle.group_model.proofs.Lists.{any_in}
 use Rattle.group_model.proofs.Worlds.{last_other, last_own, post_kept, post_new, sound_after}
 use Rattle.group_model.proofs.Lasting.{goes_on}
 use Rattle.group_model.proofs.GoingOn.{CanPost}

@@ -13,6 +13,7 @@ use Rattle.repo_plan.specs.declared.part.Part.{Part}
 use Rattle.repo_plan.specs.Plan.{no_claims, is_wanted, is_claimed, is_unclaimed, unclaimed}
 use Rattle.repo_plan.proofs.Orders.{exact_parts}
 use Rattle.sorted_lists.proofs.Sets.{In, contains_in}
+use Rattle.sorted_lists.proofs.Members.{in_filtered, in_take}
 use Rattle.repo_plan.proofs.Known.{contains-unclaimed}
 use Rattle.svs_sync.specs.declared.fired.Fired.{Fired}
 use Rattle.svs_sync.specs.declared.fired.Fired.TheVariants.{Early, Quiet, Send}
@@ -44,7 +45,7 @@ use Rattle.group_model.specs.Refusals.{Refusal, EventIsTaken, EventsAreTaken, ha
 use Rattle.group_model.specs.Sound.{IsSoundGroup, IsSoundMember, IsConsistentVector}
 use Rattle.group_model.specs.Reached.{InSoundGroups}
 use Rattle.group_model.specs.Settles.{GatheringStaysSound}
-use Rattle.group_model.proofs.Lists.{from_filter, in_first, in_take}
+use Rattle.group_model.proofs.Lists.{in_first}
 use Rattle.group_model.proofs.Members.{grown, consistent_grown, with_machine, sound_learns, sound_claims, sound_loses}
 use Rattle.group_model.proofs.Gains.{Publishes, sound_takes, sound_gains, sound_publishes, rises_each_tried, each_tried}
 use Rattle.group_model.proofs.Deletions.{sound_deletes, same_log_deletes}
@@ -379,7 +380,7 @@ sound_fetch env w j tries loss l s =
     → (is_wanted (plan_of (logs w) m) t ≡ true) × (is_claimed (plan_of (logs w) m) t ≡ false) =
     λ t i.
     let a : In t (planned_parts w j) × (is_some (attempt env w j tries loss t) ≡ true) =
-    from_filter (λ u. is_some (attempt env w j tries loss u)) (planned_parts w j) t i in
+    in_filtered (λ u. is_some (attempt env w j tries loss u)) (planned_parts w j) t i in
     open_wanted w j t (in_take 4096 (unclaimed_at w j) t a.0) in
     sound_set w j (fetches env w j tries loss m) w.time w.issued _ refl
     (sound_gains (logs w) j ts (with_each_tried more (planned_parts w j) m.attempts) m (λ t i. (was t i).0)

@@ -6,6 +6,7 @@ use Rattle.std.proofs.lemmas.List.{get_or_past, get_or-set_same, length-map, len
 use Rattle.std.proofs.lemmas.List.Elements.{All-set}
 use Rattle.std.specs.Prelude.{is_some, is_none, if◌then◌else◌}
 use Rattle.std.specs.List.{All}
+use Rattle.sorted_lists.proofs.Members.{in_filtered}
 use Rattle.repo_plan.specs.declared.part.Part.{Part}
 use Rattle.repo_plan.specs.Plan.{is_wanted, is_unclaimed, known_parts, unclaimed, first}
 use Rattle.repo_object.specs.Objects.Post.{Offers}
@@ -19,7 +20,7 @@ use Rattle.group_model.specs.Changes.{publishes, learns, member_with_claim, take
 use Rattle.group_model.specs.World.{World, member, with_member, no_member, logs}
 use Rattle.group_model.specs.Steps.{claim_at, to_claim, after_claiming, after_hear, after_response}
 use Rattle.group_model.specs.Steps.{response_read, drawn, exceeds_log, after_deliver}
-use Rattle.group_model.proofs.Lists.{from_filter, in_first}
+use Rattle.group_model.proofs.Lists.{in_first}
 use Rattle.group_model.proofs.Plans.{wanted_parts}
 use Rattle.live_member.specs.declared.event.LiveEvent.{LiveEvent}
 use Rattle.live_member.specs.declared.event.LiveEvent.TheVariants as event
@@ -53,7 +54,7 @@ open_below ls m None is = tt
 open_below ls m (Some t) is =
     let p = plan_of ls m in
     let free : is_unclaimed p t ≡ true =
-    (from_filter (is_unclaimed p) (known_parts p) t (in_first (unclaimed p) t is)).1 in
+    (in_filtered (is_unclaimed p) (known_parts p) t (in_first (unclaimed p) t is)).1 in
     let known = (wanted_parts ls m t (and_parts (is_wanted p t) _ free).0).known in
     known_place m.known t.publisher t.seq known.from_one known.to_known
 

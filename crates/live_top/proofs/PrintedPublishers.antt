@@ -14,9 +14,9 @@ use Rattle.group_model.specs.Replies.{Reply}
 use Rattle.group_model.specs.World.{World, logs}
 use Rattle.group_model.specs.Sound.{IsPublishedPart}
 use Rattle.group_model.specs.Steps.{claim_at, to_claim}
-use Rattle.group_model.proofs.Lists.{from_filter, in_at}
 use Rattle.group_model.proofs.Parts.{in_published, in_range}
 use Rattle.sorted_lists.proofs.Sets.{In, from_map}
+use Rattle.sorted_lists.proofs.Members.{in_at, in_filtered}
 use Rattle.repo_member.specs.InGroup.{in_group}
 use Rattle.live_member.specs.declared.event.LiveEvent.{LiveEvent}
 use Rattle.live_member.specs.declared.event.LiveEvent.TheVariants as event
@@ -110,7 +110,7 @@ module _ (ls : Logs) where
   among : (e : Entry) → In e (join_of ls) → e.publisher < length ls
   among e is =
       let from = from_map published_entry _ e is in
-      let kept = from_filter (is_unwithdrawn (published ls)) (published ls) from.0 from.1 in
+      let kept = in_filtered (is_unwithdrawn (published ls)) (published ls) from.0 from.1 in
       let q = (in_published ls from.0 kept.0).there in
       subst (λ (x : Entry). x.publisher < length ls) (sym from.2)
       (in_range ls from.0.publisher from.0.seq q.from_one q.to_last)

@@ -27,15 +27,16 @@ use Rattle.repo_plan.proofs.Orders.{exact_pairs, exact_parts}
 use Rattle.sorted_lists.proofs.Ranges.{length-numbers}
 use Rattle.sorted_lists.proofs.Sets.{In, eq_same, eq_itself, keys-filter, rises_filter, in_filter, contains_in}
 use Rattle.sorted_lists.proofs.Sets.{in_contains, in_map, from_map, each_before}
+use Rattle.sorted_lists.proofs.Members.{in_at, in_filtered}
 use Rattle.repo_plan.proofs.Known.{in_numbers, rises_numbers, from_parts_of, in_parts_of}
 use Rattle.repo_plan.proofs.Changes.{wanted_parts}
+use Rattle.repo_plan.proofs.Whole.{each_all}
 use Rattle.repo_object.specs.Publication.{Listed, RecordSays}
 use Rattle.repo_object.specs.Publication.RecordSays.{Lists}
 use Rattle.repo_store.specs.StoreList.{packets_in, packets_outside}
 use Rattle.repo_store.proofs.StoreLemmas.{lengths_inside}
 use Rattle.repo_catalog.specs.declared.entry.Entry.{Entry}
 use Rattle.repo_catalog.specs.Entries.{publication_of, entry_has_name, all_named, IsCatalogue}
-use Rattle.group_model.proofs.Lists.{from_filter, each_all, in_at}
 use Rattle.group_model.proofs.SortedSets.{same_set}
 use Rattle.repo_holdings.specs.Records.{Packet}
 use Rattle.repo_holdings.specs.Listed.{stored_at, listing_in, listing_at, stated_at, shapes_in, are_stored}
@@ -212,7 +213,7 @@ module _ (p : PlanState) (packets : List Packet) (pair : Pair) (n : ℕ) (s : Pl
 
   from_inside : (q : Part) → In q (filter (is_in pair) (keys packets)) → In q (parts_of pair (parts_counted n))
   from_inside q i =
-      let both = from_filter (is_in pair) (keys packets) q i in
+      let both = in_filtered (is_in pair) (keys packets) q i in
       let here : pair ≡ pair_of q = eq_same exact_pairs pair (pair_of q) both.1 in
       let held : holds p q ≡ true =
       ap (λ (ts : List Part). contains part_cmp ts q) read.held ∙ contains_in exact_parts (keys packets) q both.0 in
@@ -302,7 +303,7 @@ pub named_entry : (packets : List Packet) (name : List Component) (pair : Pair) 
 named_entry packets name pair r i =
     let e : (e : Entry) × (In e (filter (entry_has_name name) (member_catalogue packets))) × (pair ≡ publication_of e) =
     from_map publication_of (filter (entry_has_name name) (member_catalogue packets)) pair i in
-    let there = from_filter (entry_has_name name) (member_catalogue packets) e.0 e.1 in
+    let there = in_filtered (entry_has_name name) (member_catalogue packets) e.0 e.1 in
     ap (λ (q : Pair). is_some (entry_at packets q)) e.2 ∙ ap is_some (entry_of_listed packets e.0 r there.0)
 
 -- each that stands before another is another

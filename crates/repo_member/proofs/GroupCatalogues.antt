@@ -19,7 +19,9 @@ use Rattle.repo_plan.specs.Parts.{index_packets}
 use Rattle.sorted_lists.proofs.Orders.{Exact}
 use Rattle.repo_plan.proofs.Orders.{exact_pairs}
 use Rattle.sorted_lists.proofs.Sets.{In, in_map, from_map, in_filter, eq_same, eq_itself}
+use Rattle.sorted_lists.proofs.Members.{in_filtered}
 use Rattle.repo_plan.proofs.Known.{in_numbers, in_parts_of}
+use Rattle.repo_plan.proofs.Whole.{each_all}
 use Rattle.repo_object.specs.Objects.{NamedContents, Post, IsObject, IsPost, offered, shape_in, withdraws_number}
 use Rattle.repo_object.specs.Objects.Post.{Offers, Withdraws}
 use Rattle.repo_object.specs.Publication.{Listed, RecordSays, published_listing, published_record, packet_at}
@@ -30,7 +32,6 @@ use Rattle.group_model.specs.Publications.{Logs, Publication, pair_in, parts_in,
 use Rattle.group_model.specs.Publications.{is_object, withdraws}
 use Rattle.group_model.specs.Member.{Member, member_holds, holds_all, knows_withdrawn, is_listed, catalogued}
 use Rattle.group_model.specs.Sound.{IsPublished}
-use Rattle.group_model.proofs.Lists.{from_filter, each_all}
 use Rattle.group_model.proofs.Parts.{IsIn, in_published}
 use Rattle.group_model.proofs.Among.{at_pair, is_published}
 use Rattle.group_model.proofs.Catalogues.{lists_in_order}
@@ -405,7 +406,7 @@ module _ (g : GroupKeys) (logs : Logs) (a : MemberState) (are : AreLogs g logs)
       from_map keyed (catalogued logs m) (pair, e) i in
       let q : Publication = from.0 in
       let passes : In q (published logs) × (is_listed (published logs) m q ≡ true) =
-      from_filter (is_listed (published logs) m) (published logs) q from.1 in
+      in_filtered (is_listed (published logs) m) (published logs) q from.1 in
       let is : IsIn logs q = in_published logs q passes.0 in
       let post_same = is.post in
       let same : q ≡ at_pair logs (pair_in q) =

@@ -12,13 +12,13 @@ use Rattle.repo_plan.specs.Plan.{PlanState, knows, hides, is_in, claims_part_in,
 use Rattle.repo_plan.specs.Sound.{PlanIsSound}
 use Rattle.repo_plan.proofs.Orders.{exact_pairs}
 use Rattle.sorted_lists.proofs.Sets.{In, eq_same, eq_turned, contains-insert_key, from_map}
+use Rattle.sorted_lists.proofs.Members.{in_filtered}
 use Rattle.repo_plan.proofs.Changes.{same_holdings, sound_hides}
 use Rattle.repo_object.specs.Wants.{WantedPart}
 use Rattle.repo_object.specs.Verdict.{ring_verdict}
 use Rattle.repo_store.specs.StoreList.{packets_outside}
 use Rattle.repo_catalog.specs.declared.entry.Entry.{Entry}
 use Rattle.repo_catalog.specs.Entries.{publication_of, entry_has_name, all_named}
-use Rattle.group_model.proofs.Lists.{from_filter}
 use Rattle.repo_holdings.specs.Records.{Packet}
 use Rattle.repo_holdings.specs.Listed.{member_catalogue}
 use Rattle.repo_member.specs.Groups.{GroupKeys}
@@ -42,7 +42,7 @@ pub named_can_hide : (p : PlanState) (packets : List Packet) (name : List Compon
 named_can_hide p packets name s read pair i =
     let e : (e : Entry) × (In e (filter (entry_has_name name) (member_catalogue packets))) × (pair ≡ publication_of e) =
     from_map publication_of (filter (entry_has_name name) (member_catalogue packets)) pair i in
-    let there = from_filter (entry_has_name name) (member_catalogue packets) e.0 e.1 in
+    let there = in_filtered (entry_has_name name) (member_catalogue packets) e.0 e.1 in
     let whole = entry_listed_whole packets e.0 read.in_order there.0 in
     subst (CanHide p) (sym e.2) (record {
       known = whole_known p packets (publication_of e.0) e.0.segments s read whole;

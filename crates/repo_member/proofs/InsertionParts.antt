@@ -12,6 +12,7 @@ use Rattle.sorted_lists.specs.SortedList.{value_of, with_value}
 use Rattle.sorted_lists.proofs.Orders.{exact_numbers}
 use Rattle.sorted_lists.proofs.Ranges.{length-numbers}
 use Rattle.sorted_lists.proofs.Sets.{In, value_of-with_value}
+use Rattle.repo_plan.proofs.Whole.{each_all}
 use Rattle.repo_object.specs.Objects.{is_object_name, IsContent, IsObject}
 use Rattle.repo_command.specs.declared.command.Command.{Command}
 use Rattle.repo_command.specs.declared.command.Command.TheVariants.{Insert, Check, Delete}
@@ -21,7 +22,6 @@ use Rattle.repo_process.specs.Processes.{Process, BlockState, starting, indexes,
 use Rattle.repo_process.specs.Processes.{with_block, object_of, closed, with_it, block_in, block_state}
 use Rattle.repo_process.specs.Processes.BlockState.{Unknown, Already, Waiting, Whole}
 use Rattle.repo_process.specs.Insertions.{Insertions, next_number, starts, with_process}
-use Rattle.group_model.proofs.Lists.{each_all}
 use Rattle.repo_member.specs.Groups.{GroupKeys}
 use Rattle.repo_member.specs.MemberState.{MemberState, member_publishes, member_clears}
 use Rattle.repo_member.specs.Commanded.{order_of, member_state_starts, member_obeys, member_after_order}

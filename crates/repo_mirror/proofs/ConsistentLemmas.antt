@@ -12,7 +12,7 @@ use Rattle.sorted_lists.specs.SortedList.{contains}
 use Rattle.repo_plan.specs.Parts.{Pair, pair_cmp, part_cmp, pair_of, part_of, record_of, parent}
 use Rattle.repo_plan.proofs.Orders.{exact_parts, exact_pairs}
 use Rattle.sorted_lists.proofs.Sets.{In, contains_in, in_contains, in_map, from_map, in_filter, contains-insert_keys}
-use Rattle.sorted_lists.proofs.Members.{in_at}
+use Rattle.sorted_lists.proofs.Members.{in_at, in_filtered}
 use Rattle.repo_object.specs.Objects.{Post, Publisher}
 use Rattle.repo_object.specs.Objects.Post.{Offers, Withdraws}
 use Rattle.repo_object.specs.Publication.{RecordSays, packet_at, published_record}
@@ -20,7 +20,7 @@ use Rattle.repo_object.specs.Verdict.{stated_in}
 use Rattle.repo_holdings.specs.Gaining.{summary_of}
 use Rattle.repo_holdings.specs.Taking.{Fetched}
 use Rattle.group_model.specs.Publications.{Logs, post_at, shape_at}
-use Rattle.group_model.proofs.Lists.{from_filter, at_in}
+use Rattle.group_model.proofs.Lists.{at_in}
 use Rattle.group_model.proofs.Parents.{record_lists_itself}
 use Rattle.repo_mirror.specs.Asked.{is_for, is_post_for}
 use Rattle.repo_mirror.specs.Mirrors.{mirror_holds, IsWantedByMirror, IsKeptSoundly, IsPassedSoundly}
@@ -105,7 +105,7 @@ module _ (g : GroupKeys) (logs : Logs) (m : MirrorState) (xs : List Fetched) (ar
       let at = at_in xs x x i in subst (FetchForMirror g logs m) (sym at.2) (all at.0 x at.1)
 
   kept_in : (x : Fetched) → In x (fetches_for m.pattern xs) → In x xs × (is_fetch_for m.pattern x ≡ true)
-  kept_in x i = from_filter (is_fetch_for m.pattern) xs x i
+  kept_in x i = in_filtered (is_fetch_for m.pattern) xs x i
 
   -- what is passed over newly
   passed_in : (pair : Pair) → contains pair_cmp (passed_over m.pattern xs) pair ≡ true
@@ -119,7 +119,7 @@ module _ (g : GroupKeys) (logs : Logs) (m : MirrorState) (xs : List Fetched) (ar
       ] in
       let r = from_map (λ (x : Fetched). pair_of x.part) (filter (λ x. not (is_fetch_for m.pattern x)) xs) pair
       (in_contains exact_pairs (not_kept m.pattern xs) pair among) in
-      let f = from_filter (λ x. not (is_fetch_for m.pattern x)) xs r.0 r.1 in
+      let f = in_filtered (λ x. not (is_fetch_for m.pattern x)) xs r.0 r.1 in
       (r.0, f.0, not-true (is_fetch_for m.pattern r.0) f.1, r.2)
 
   passed_now : (x : Fetched) → In x xs → is_fetch_for m.pattern x ≡ false
@@ -244,7 +244,7 @@ module _ (g : GroupKeys) (logs : Logs) (m : MirrorState) (xs : List Fetched) (ar
   held_came u h =
       let r = from_map (λ (y : Fetched). y.part) (filter (λ y. is_some y.packet) xs) u
       (in_contains exact_parts (parts_fetched xs) u h) in
-      let f = from_filter (λ y. is_some y.packet) xs r.0 r.1 in
+      let f = in_filtered (λ y. is_some y.packet) xs r.0 r.1 in
       subst (λ (t : Part). mirror_holds (mirror_in_group next) t ≡ true) (sym r.2)
       (elim (cases_Bool (is_fetch_for m.pattern r.0)) [
         | inl kept ↦

@@ -11,6 +11,8 @@ use Rattle.repo_plan.specs.declared.part.Part.{Part}
 use Rattle.sorted_lists.specs.SortedList.{contains}
 use Rattle.repo_plan.specs.Parts.{Pair, pair_cmp, pair_of, part_of, record_of, parent, parent_number, last_part}
 use Rattle.sorted_lists.proofs.Sets.{In}
+use Rattle.sorted_lists.proofs.Members.{in_at}
+use Rattle.repo_plan.proofs.Whole.{all_in}
 use Rattle.repo_object.specs.Objects.{Post, shape_in, contents_of, withdraws_number}
 use Rattle.repo_watch.specs.declared.pattern.Pattern.{Pattern}
 use Rattle.repo_watch.specs.Patterns.{is_publisher, begins_with, accepts}
@@ -21,7 +23,7 @@ use Rattle.group_model.specs.World.{World, no_member, member, logs, someone_hold
 use Rattle.group_model.specs.Steps.{settled_vector}
 use Rattle.group_model.specs.Sound.{IsSoundGroup, IsSoundMember, IsKnown}
 use Rattle.group_model.specs.Laws.{NothingDeleted}
-use Rattle.group_model.proofs.Lists.{all_in, in_at, same_filter, same_any}
+use Rattle.group_model.proofs.Lists.{same_filter, same_any}
 use Rattle.group_model.proofs.Parts.{IsIn, in_published, publisher_within, IsPartOf, from_parts_in}
 use Rattle.group_model.proofs.Parents.{parent_within, parent_of_parent}
 use Rattle.group_model.proofs.Settles.{someone, knows_settled, settled_no_more}

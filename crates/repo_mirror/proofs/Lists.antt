@@ -7,6 +7,7 @@ use Rattle.repo_plan.specs.declared.part.Part.{Part}
 use Rattle.sorted_lists.specs.SortedList.{contains}
 use Rattle.repo_plan.specs.Parts.{Pair, part_cmp, pair_of, part_of}
 use Rattle.sorted_lists.proofs.Sets.{In}
+use Rattle.repo_plan.proofs.Whole.{all_in, each_all}
 use Rattle.repo_object.specs.Objects.{Post, offered, withdraws_number}
 use Rattle.repo_object.specs.Objects.Post.{Offers, Withdraws}
 use Rattle.repo_watch.specs.declared.pattern.Pattern.{Pattern}
@@ -14,7 +15,7 @@ use Rattle.repo_watch.specs.Patterns.{accepts}
 use Rattle.group_model.specs.Publications.{Logs, Publication, pair_in, no_object, parts_in, published, is_object}
 use Rattle.group_model.specs.Publications.{object_in, withdraws, published_entry}
 use Rattle.group_model.specs.Member.{member_holds, holds_all, knows_withdrawn, is_listed}
-use Rattle.group_model.proofs.Lists.{all_in, each_all, same_filter, same_any}
+use Rattle.group_model.proofs.Lists.{same_filter, same_any}
 use Rattle.group_model.proofs.Parts.{IsIn, in_published, from_parts_in, in_parts_in}
 use Rattle.repo_mirror.specs.Asked.{is_for, is_post_for}
 use Rattle.repo_mirror.specs.Mirrors.{Mirror, mirror_holds, as_member, IsSoundMirror, mirror_knows_withdrawn}

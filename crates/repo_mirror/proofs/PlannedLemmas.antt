@@ -8,13 +8,12 @@ use Rattle.ndn_name.specs.Names.{Component}
 use Rattle.repo_plan.specs.declared.part.Part.{Part}
 use Rattle.repo_plan.specs.Plan.{is_wanted, is_claimed, is_after, wanted, known_parts, attempts_of}
 use Rattle.sorted_lists.proofs.Sets.{In}
-use Rattle.sorted_lists.proofs.Members.{in_all}
+use Rattle.sorted_lists.proofs.Members.{in_all, in_filtered, in_take}
 use Rattle.repo_object.specs.declared.job.Job.{Job}
 use Rattle.repo_object.specs.Wants.{WantedPart}
 use Rattle.repo_object.specs.Verdict.{CheckedPart}
 use Rattle.repo_holdings.specs.Taking.{PartsDiffer}
 use Rattle.repo_holdings.specs.Wanting.{want_at, job_at}
-use Rattle.group_model.proofs.Lists.{from_filter, in_take}
 use Rattle.repo_member.specs.Groups.{GroupKeys}
 use Rattle.repo_member.specs.Outcomes.{IsCheckedFor, AreFetchedOf}
 use Rattle.repo_member.proofs.MemberLemmas.{want_at_part}
@@ -72,8 +71,8 @@ planned_jobs_are_outcomes publishers group m after most jobs parts attempts plan
     subst (λ (us : List Part). PartsDiffer (take most (filter (is_after after) us))) (all_unclaimed m)
     (next_differ (mirror_holdings m) after most) in
     let each : (t : Part) → In t ts → is_wanted (fetch_plan m) t ≡ true = λ t i.
-    (from_filter (is_wanted (fetch_plan m)) (known_parts (fetch_plan m)) t
-    (from_filter (is_after after) (wanted (fetch_plan m)) t (in_take most next t i)).0).1 in
+    (in_filtered (is_wanted (fetch_plan m)) (known_parts (fetch_plan m)) t
+    (in_filtered (is_after after) (wanted (fetch_plan m)) t (in_take most next t i)).0).1 in
     subst (λ (js : List Job). IsMirrorOutcome m js parts attempts) (sym planned)
     (are_outcomes publishers group m ts differ each parts attempts
     (subst (λ (js : List Job). WereTriedFor js parts attempts) planned were))

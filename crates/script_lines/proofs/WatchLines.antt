@@ -10,6 +10,7 @@ use Rattle.std.proofs.lemmas.List.Elements.{All-cons, All-nil}
 use Rattle.ndn_name.specs.Names.{Component}
 use Rattle.repo_plan.specs.Parts.{Pair}
 use Rattle.sorted_lists.proofs.Sets.{In}
+use Rattle.sorted_lists.proofs.Members.{in_filtered}
 use Rattle.repo_catalog.specs.declared.entry.Entry.{Entry}
 use Rattle.repo_catalog.specs.Entries.{IsCatalogue, entry_of, lists, publication_of}
 use Rattle.repo_catalog.proofs.NamedLemmas.{listed_in}
@@ -18,7 +19,6 @@ use Rattle.repo_watch.specs.Watching.{Watching, after_add, after_take, is_news, 
 use Rattle.group_model.specs.World.{World, catalogue_at, logs, member}
 use Rattle.group_model.specs.Sound.{IsSoundGroup}
 use Rattle.group_model.proofs.PublicLaws.{lists_in_order}
-use Rattle.group_model.proofs.Lists.{from_filter}
 use Rattle.repo_member.specs.InGroup.{in_group}
 use Rattle.bench_world.specs.EventValues.{EventValue}
 use Rattle.bench_world.specs.Worlds.{GroupState, drawing, world_of}
@@ -170,7 +170,7 @@ same_each (x ∷ xs) (y ∷ ys) h =
 
 among_all : (o : Option Watching) (entries : List Entry) (e : Entry) → In e (news_in o entries) → In e entries
 among_all None entries e i = absurd i
-among_all (Some watching) entries e i = (from_filter (is_news watching) entries e i).0
+among_all (Some watching) entries e i = (in_filtered (is_news watching) entries e i).0
 
 pub news_listed : (o : Option Watching) (entries : List Entry) (pairs : List Pair) → IsCatalogue entries
     → pairs ≡ news_of o entries → All (λ pair. lists pair entries ≡ true) pairs

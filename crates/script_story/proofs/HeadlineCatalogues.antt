@@ -8,6 +8,7 @@ use Rattle.std.proofs.lemmas.Bool.{true≢false, cases_Bool}
 use Rattle.std.proofs.lemmas.Slice.Eq.{bytes_eq-Decides}
 use Rattle.repo_plan.specs.Parts.{Pair}
 use Rattle.sorted_lists.proofs.Sets.{In, from_map}
+use Rattle.sorted_lists.proofs.Members.{in_at, in_filtered}
 use Rattle.repo_catalog.specs.declared.entry.Entry.{Entry}
 use Rattle.repo_catalog.specs.Entries.{lists, publication_of}
 use Rattle.group_model.specs.Publications.{Logs, Publication, published, published_entry}
@@ -15,7 +16,6 @@ use Rattle.group_model.specs.Member.{Member, catalogue, catalogued, is_listed, h
 use Rattle.group_model.specs.World.{Environment, World, catalogue_at, logs, member}
 use Rattle.group_model.specs.Sound.{IsPublished, IsSoundGroup, IsSoundMember}
 use Rattle.group_model.specs.Catalogues.{BelongsInCatalogue, ListsRightly}
-use Rattle.group_model.proofs.Lists.{from_filter, in_at}
 use Rattle.group_model.proofs.Parts.{IsIn, in_published}
 use Rattle.group_model.proofs.PublicLaws.{lists_those, lists_in_order}
 use Rattle.script_lang.specs.declared.verb.Verb.TheVariants as verb
@@ -41,7 +41,7 @@ printed_entry : (ls : Logs) (m : Member) (e : Entry) → In e (catalogue ls m)
 printed_entry ls m e among =
     let q : (q : Publication) × (In q (catalogued ls m)) × (e ≡ published_entry q) =
     from_map published_entry (catalogued ls m) e among in
-    let there : IsIn ls q.0 = in_published ls q.0 (from_filter (is_listed (published ls) m) (published ls) q.0 q.1).0 in
+    let there : IsIn ls q.0 = in_published ls q.0 (in_filtered (is_listed (published ls) m) (published ls) q.0 q.1).0 in
     let Tells : Entry → Type 0 = λ x. x ≡ published_entry (publication_at ls (publication_of x)) in
     let here : Tells (published_entry q.0) =
     ap (λ o. published_entry (record { publisher = q.0.publisher; seq = q.0.seq; post = o })) there.post in

@@ -8,8 +8,10 @@ use Rattle.std.proofs.lemmas.Bool.{and_parts, cases_Bool, false≢true}
 use Rattle.std.proofs.lemmas.Option.{slice_get-get_or}
 use Rattle.sorted_lists.specs.Range.{numbers_from}
 use Rattle.sorted_lists.proofs.Sets.{In, from_map}
+use Rattle.sorted_lists.proofs.Members.{in_at, in_filtered}
 use Rattle.repo_plan.specs.declared.part.Part.{Part}
 use Rattle.repo_plan.specs.Parts.{Pair, index_packets, pair_of, part_of, last_part}
+use Rattle.repo_plan.proofs.Whole.{each_all}
 use Rattle.repo_object.specs.Objects.{IsObject, IsPost, IsPublisher, NamedContents, Post, offered, shape_in}
 use Rattle.repo_object.specs.Objects.Post.{Offers, Withdraws}
 use Rattle.repo_object.specs.Publication.{packet_at}
@@ -21,7 +23,6 @@ use Rattle.group_model.specs.Publications.{published, published_entry}
 use Rattle.group_model.specs.Member.{catalogued, holds_all, is_listed, knows_withdrawn, member_holds}
 use Rattle.group_model.specs.World.{World, catalogue_at, logs, member}
 use Rattle.group_model.specs.Sound.{IsPublished, IsPublishedPart, IsSoundGroup}
-use Rattle.group_model.proofs.Lists.{each_all, from_filter, in_at}
 use Rattle.group_model.proofs.Members.{known_published}
 use Rattle.group_model.proofs.Parts.{IsIn, in_parts_in, in_published}
 use Rattle.repo_member.specs.Groups.{GroupKeys, publisher_at}
@@ -180,7 +181,7 @@ entries_tell g w m are e among =
     let listed : Publication → Bool = is_listed (published (logs w)) (member w m) in
     let q : (q : Publication) × (In q (catalogued (logs w) (member w m))) × (e ≡ published_entry q) =
     from_map published_entry (catalogued (logs w) (member w m)) e among in
-    let is = from_filter listed (published (logs w)) q.0 q.1 in
+    let is = in_filtered listed (published (logs w)) q.0 q.1 in
     let unknown : Bool = not (knows_withdrawn (published (logs w)) (member w m) (pair_in q.0)) in
     let both = and_parts (is_object q.0) (holds_all (member w m) q.0 && unknown) is.1 in
     subst (ReportsOfDumped g w m) (sym q.2)

@@ -9,10 +9,10 @@ use Rattle.repo_catalog.specs.declared.entry.Entry.{Entry}
 use Rattle.repo_catalog.specs.Entries.{publication_of}
 use Rattle.repo_watch.specs.Watching.{Watching, after_add, after_take, is_news, news_of, watch_of}
 use Rattle.sorted_lists.proofs.Sets.{In, from_map}
+use Rattle.sorted_lists.proofs.Members.{in_filtered}
 use Rattle.group_model.specs.Publications.{Publication, published, published_entry}
 use Rattle.group_model.specs.World.{Environment, World, catalogue_at, logs}
 use Rattle.group_model.specs.Refusals as group
-use Rattle.group_model.proofs.Lists.{from_filter}
 use Rattle.group_model.proofs.Parts.{in_published, in_range}
 use Rattle.bench_world.specs.EventValues.{EventValue, event_report}
 use Rattle.bench_world.specs.Steps.{NamesAll}
@@ -73,7 +73,7 @@ of_members w m = all_from_in (λ (e : Entry). e.publisher < length (logs w)) (mi
     let q : (p : Publication) × In p listed × (e ≡ published_entry p) = from_map published_entry listed e i in
     let there =
     in_published (logs w) q.0
-    (from_filter (is_listed_by (published (logs w)) m) (published (logs w)) q.0 q.1).0 in
+    (in_filtered (is_listed_by (published (logs w)) m) (published (logs w)) q.0 q.1).0 in
     subst (λ (x : Entry). x.publisher < length (logs w)) (sym q.2)
     (in_range (logs w) q.0.publisher q.0.seq there.there.from_one there.there.to_last))
 

@@ -10,7 +10,9 @@ use Rattle.svs_vector.proofs.JoinLemmas.{join-at}
 use Rattle.repo_plan.specs.declared.part.Part.{Part}
 use Rattle.sorted_lists.specs.SortedList.{contains}
 use Rattle.sorted_lists.proofs.Sets.{In}
+use Rattle.sorted_lists.proofs.Members.{in_at}
 use Rattle.repo_plan.specs.Parts.{Pair, pair_cmp, pair_of, part_of, last_part}
+use Rattle.repo_plan.proofs.Whole.{all_in}
 use Rattle.repo_object.specs.Objects.{Post, shape_in, withdraws_number}
 use Rattle.repo_watch.specs.Patterns.{accepts, begins_with, is_publisher}
 use Rattle.group_model.specs.Publications.{Publication, count, is_object, is_unwithdrawn, join_of, last_of, object_in}
@@ -20,7 +22,7 @@ use Rattle.group_model.specs.World.{World, logs, member, no_member, someone_hold
 use Rattle.group_model.specs.Steps.{settled_vector}
 use Rattle.group_model.specs.Sound.{IsSoundGroup, IsSoundMember}
 use Rattle.group_model.specs.Laws.{NothingDeleted}
-use Rattle.group_model.proofs.Lists.{all_in, in_at, same_any, same_filter}
+use Rattle.group_model.proofs.Lists.{same_any, same_filter}
 use Rattle.group_model.proofs.Parts.{IsIn, IsPartOf, from_parts_in, in_published, publisher_within}
 use Rattle.group_model.proofs.Settles.{someone, knows_settled}
 use Rattle.repo_mirror.specs.Asked.{is_for, is_post_for}

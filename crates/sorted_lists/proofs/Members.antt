@@ -18,6 +18,9 @@ module _ {A : Type 0} where
   pub in_drop : (n : ℕ) (xs : List A) (x : A) → In x (drop n xs) → In x xs
   in_drop n xs x i = subst (In x) (take-append-drop n xs) (append_right (take n xs) (drop n xs) x i)
 
+  pub in_take : (n : ℕ) (xs : List A) (x : A) → In x (take n xs) → In x xs
+  in_take n xs x i = subst (In x) (take-append-drop n xs) (append_left (take n xs) (drop n xs) x i)
+
   pub at_drop : (xs : List A) (i : ℕ) (d : A) → i < length xs → In (get_or xs i d) (drop i xs)
   at_drop xs i d l = subst (In (get_or xs i d)) (sym (drop_more xs i d l)) (inl refl)
 

@@ -14,8 +14,8 @@ use Rattle.repo_plan.specs.Plan.{knows, claims_part_in}
 use Rattle.repo_plan.specs.Sound.{PlanIsSound}
 use Rattle.repo_catalog.specs.declared.entry.Entry.{Entry}
 use Rattle.repo_catalog.specs.Entries.{entry_of, all_named}
-use Rattle.group_model.proofs.Lists.{in_at}
 use Rattle.sorted_lists.proofs.Sets.{In}
+use Rattle.sorted_lists.proofs.Members.{in_at}
 use Rattle.repo_holdings.specs.HoldingsState.{held_plan}
 use Rattle.repo_holdings.specs.Listed.{entry_at, member_catalogue, is_withdrawal}
 use Rattle.repo_holdings.specs.Hiding.{outside_all}
