@@ -23,7 +23,7 @@ use Rattle.sorted_lists.proofs.Members.{in_prefix, in_back, in_at}
 use Rattle.sorted_lists.proofs.Climbs.{climbs_parts, pairs_climb}
 use Rattle.sorted_lists.proofs.LeastOnes.{le_both, first_same}
 use Rattle.repo_plan.proofs.Orders.{exact_parts}
-use Rattle.repo_store.specs.PacketTable.{Slots, Held}
+use Rattle.repo_store.specs.PacketTable.{Slots, Stored}
 use Rattle.repo_store.specs.Indexes.{name_at, key_in, AreInOrder, asks, name_matches, held_part, AreMatches}
 use Rattle.repo_store.specs.Indexes.{IsFirstOf}
 use Rattle.repo_store.proofs.IndexLemmas.{exact_octets, exact_keys, NameLe, PartLe, names_le, parts_le, IsFrom}
@@ -86,19 +86,19 @@ asked_between asked false a b low high h =
 
 -- ---- in an index
 
-module _ (slots : Slots) (held : List Held) (asked : List ℕ) (p : Bool) where
-  abbrev pub test : Held → Bool
+module _ (slots : Slots) (held : List Stored) (asked : List ℕ) (p : Bool) where
+  abbrev pub test : Stored → Bool
   test h = name_matches slots asked p h
 
   -- of what is held from a name on, what is asked for comes first
-  module _ (rest : List Held) (from : IsFrom slots held asked rest) where
-    names_climb : (i j : ℕ) (d : Held) → i < j → j < length rest
+  module _ (rest : List Stored) (from : IsFrom slots held asked rest) where
+    names_climb : (i j : ℕ) (d : Stored) → i < j → j < length rest
         → NameLe (name_at slots (get_or rest i d)) (name_at slots (get_or rest j d))
     names_climb i j d l m =
         names_le (key_in slots (get_or rest i d)) (key_in slots (get_or rest j d))
         (pairs_climb exact_keys (key_in slots) rest from.in_order i j d l m)
 
-    low_at : (i : ℕ) (d : Held) → i < length rest → NameLe asked (name_at slots (get_or rest i d))
+    low_at : (i : ℕ) (d : Stored) → i < length rest → NameLe asked (name_at slots (get_or rest i d))
     low_at i d l = from.after (get_or rest i d) (in_at rest i d l)
 
     pub asked_parted : IsPartitionedBy test rest
@@ -112,7 +112,7 @@ module _ (slots : Slots) (held : List Held) (asked : List ℕ) (p : Bool) where
     module _ (end : ℕ) (within : end ≤ length rest)
         (point : IsPartitionPoint (λ h. test h ≡ true) (λ h. test h ≡ false) rest end) where
       -- what stands in front of what is held from the name on is not asked for, and what stands after the end neither
-      within_end : (h : Held) → Passes held test h → In h (take end rest)
+      within_end : (h : Stored) → Passes held test h → In h (take end rest)
       within_end h i = elim (in_append from.prefix rest h (subst (In h) (sym from.whole) i.0)) [
         | inl before ↦
             absurd (lt_not_le exact_octets (name_at slots h) asked (from.before h before)
@@ -137,8 +137,8 @@ module _ (slots : Slots) (held : List Held) (asked : List ℕ) (p : Bool) where
 
   -- ---- of the least part
 
-  module _ (found : List Held) (are : AreMatches slots held asked p found) where
-    pub least_asked : (r : Option Held) → IsFirstOf found (λ h. true) r → IsFirstOf held test r
+  module _ (found : List Stored) (are : AreMatches slots held asked p found) where
+    pub least_asked : (r : Option Stored) → IsFirstOf found (λ h. true) r → IsFirstOf held test r
     least_asked r first =
         first_same exact_parts held_part (Passes found (λ h. true)) (Passes held test) (λ h i. are.there h i.0)
         (λ h i. (are.back h i, refl)) r first
@@ -146,18 +146,18 @@ module _ (slots : Slots) (held : List Held) (asked : List ℕ) (p : Bool) where
     -- of one name the first is
     pub first_asked : p ≡ false → IsFirstOf held test (slice_get found 0)
     first_asked exact = least_asked (slice_get found 0) (go found are.in_order own) where
-      own : (o : Held) → In o found → name_at slots o ≡ asked
+      own : (o : Stored) → In o found → name_at slots o ≡ asked
       own o i =
           (is_name asked (name_at slots o)).0
           (subst (λ (b : Bool). asks asked b (name_at slots o) ≡ true) exact (are.there o i).1)
 
-      go : (xs : List Held) → AreInOrder slots xs → ((o : Held) → In o xs → name_at slots o ≡ asked)
+      go : (xs : List Stored) → AreInOrder slots xs → ((o : Stored) → In o xs → name_at slots o ≡ asked)
           → IsFirstOf xs (λ h. true) (slice_get xs 0)
       go [] climbs same = λ h i. i.0
       go (x ∷ xs) climbs same = record {
         there = (inl refl, refl);
         least = λ o i. elim (let j : (o ≡ x) ⊎ In o xs = i.0 in j) [
-          | inl e ↦ subst (λ (h : Held). PartLe x.0 h.0) (sym e) (le_itself exact_parts x.0)
+          | inl e ↦ subst (λ (h : Stored). PartLe x.0 h.0) (sym e) (le_itself exact_parts x.0)
           | inr j ↦
               parts_le (key_in slots x) (key_in slots o) (same x (inl refl) ∙ sym (same o (inr j))) (climbs.0 o j)
         ];

@@ -7,11 +7,11 @@ use Rattle.std.proofs.lemmas.List.Edits.{length-remove}
 use Rattle.std.proofs.lemmas.Grind.{take-set_at}
 use Rattle.sorted_lists.specs.Members.{In}
 use Rattle.sorted_lists.proofs.Sets.{in_append}
-use Rattle.sorted_lists.proofs.Members.{in_drop, at_drop}
+use Rattle.sorted_lists.proofs.Members.{in_drop, in_take, at_drop}
 use Rattle.sorted_lists.proofs.LeastOnes.{first_of_both}
 use Rattle.repo_plan.proofs.Orders.{exact_parts}
 use Rattle.repo_store.specs.declared.blocks.Block.{Block}
-use Rattle.repo_store.specs.PacketTable.{Held}
+use Rattle.repo_store.specs.PacketTable.{Stored}
 use Rattle.repo_store.specs.Indexes.{IsFirstOf, held_part, lesser}
 use Rattle.repo_store.specs.Blocks.{piece, IsBlock, AreBlocks, IsNear, AreNear, StaysBlock}
 
@@ -23,13 +23,13 @@ piece_nothing zero (suc end) = refl
 piece_nothing (suc start) zero = refl
 piece_nothing (suc start) (suc end) = refl
 
-pub piece_empty : (place : ℕ) (held : List Held) → piece place place held ≡ []
+pub piece_empty : (place : ℕ) (held : List Stored) → piece place place held ≡ []
 piece_empty zero held = refl
 piece_empty (suc place) [] = refl
 piece_empty (suc place) (x ∷ held) = piece_empty place held
 
 -- a piece is two
-piece_parts : (held : List Held) (start from end : ℕ) → start ≤ from → from ≤ end
+piece_parts : (held : List Stored) (start from end : ℕ) → start ≤ from → from ≤ end
     → piece start end held ≡ piece start from held ++ piece from end held
 piece_parts [] start from end low high =
     piece_nothing start end
@@ -37,14 +37,14 @@ piece_parts [] start from end low high =
 piece_parts (x ∷ held) zero zero end low high = refl
 piece_parts (x ∷ held) zero (suc from) zero low high = absurd (omega (arith, high))
 piece_parts (x ∷ held) zero (suc from) (suc end) low high =
-    ap (λ (xs : List Held). x ∷ xs) (piece_parts held 0 from end (omega arith) (omega (arith, high)))
+    ap (λ (xs : List Stored). x ∷ xs) (piece_parts held 0 from end (omega arith) (omega (arith, high)))
 piece_parts (x ∷ held) (suc start) zero end low high = absurd (omega (arith, low))
 piece_parts (x ∷ held) (suc start) (suc from) zero low high = absurd (omega (arith, high))
 piece_parts (x ∷ held) (suc start) (suc from) (suc end) low high =
     piece_parts held start from end (omega (arith, low)) (omega (arith, high))
 
 -- where one is removed after it, a piece stays where it is
-taken_before : (held : List Held) (place end : ℕ) → end ≤ place → take end (remove held place) ≡ take end held
+taken_before : (held : List Stored) (place end : ℕ) → end ≤ place → take end (remove held place) ≡ take end held
 taken_before [] zero zero low = refl
 taken_before [] zero (suc end) low = absurd (omega (arith, low))
 taken_before [] (suc place) zero low = refl
@@ -52,10 +52,10 @@ taken_before [] (suc place) (suc end) low = refl
 taken_before (x ∷ held) place zero low = refl
 taken_before (x ∷ held) zero (suc end) low = absurd (omega (arith, low))
 taken_before (x ∷ held) (suc place) (suc end) low =
-    ap (λ (xs : List Held). x ∷ xs) (taken_before held place end (omega (arith, low)))
+    ap (λ (xs : List Stored). x ∷ xs) (taken_before held place end (omega (arith, low)))
 
 -- where one is removed in front of it, it moves by one place
-piece_after : (held : List Held) (place start end : ℕ) → place ≤ start
+piece_after : (held : List Stored) (place start end : ℕ) → place ≤ start
     → piece start end (remove held place) ≡ piece (suc start) (suc end) held
 piece_after [] zero start end low = piece_nothing start end
 piece_after [] (suc place) start end low = piece_nothing start end
@@ -66,22 +66,22 @@ piece_after (x ∷ held) (suc place) (suc start) (suc end) low = piece_after hel
 
 -- ---- one is removed
 
-pub stays_before : (place : ℕ) (left : List Held) (b : Block) → b.end ≤ place → StaysBlock place left b b
+pub stays_before : (place : ℕ) (left : List Stored) (b : Block) → b.end ≤ place → StaysBlock place left b b
 stays_before place left b low held within is block = record {
   rises = block.rises;
   within = omega (arith, low, within, ap length is, length-remove held place within);
   least =
-      subst (λ (xs : List Held). IsFirstOf (drop b.start xs) (λ h. true) b.least)
+      subst (λ (xs : List Stored). IsFirstOf (drop b.start xs) (λ h. true) b.least)
       (sym (ap (take b.end) is ∙ taken_before held place b.end low)) block.least;
 }
 
-pub stays_after : (place : ℕ) (left : List Held) (b moved : Block) → place < b.start → moved.start + 1 ≡ b.start
+pub stays_after : (place : ℕ) (left : List Stored) (b moved : Block) → place < b.start → moved.start + 1 ≡ b.start
     → moved.end + 1 ≡ b.end → moved.least ≡ b.least → StaysBlock place left b moved
 stays_after place left b moved low start end least held within is block = record {
   rises = omega (arith, block.rises, start, end);
   within = omega (arith, block.within, end, ap length is, length-remove held place within);
   least =
-      subst (λ (xs : List Held). IsFirstOf xs (λ h. true) moved.least)
+      subst (λ (xs : List Stored). IsFirstOf xs (λ h. true) moved.least)
       (sym (ap (piece moved.start moved.end) is
       ∙ piece_after held place moved.start moved.end (omega (arith, low, start))
       ∙ (λ i. piece (start' i) (end' i) held)))
@@ -94,23 +94,29 @@ stays_after place left b moved low start end least held within is block = record
     end' : suc moved.end ≡ b.end
     end' = omega (arith, end)
 
-pub near_blocks : (held left : List Held) (place : ℕ) (blocks : List Block) → place < length held
+pub near_blocks : (held left : List Stored) (place : ℕ) (blocks : List Block) → place < length held
     → left ≡ remove held place → AreBlocks held blocks → AreNear left blocks
 near_blocks held left place blocks within is are b i =
     let block = are b i in
     (block.rises, omega (arith, block.within, ap length is, length-remove held place within))
 
+-- those between two numbers
+pub blocks_between : (held : List Stored) (blocks rest near : List Block) (from many : ℕ) → rest ≡ drop from blocks
+    → near ≡ take many rest → AreBlocks held blocks → AreBlocks held near
+blocks_between held blocks rest near from many is_rest is_near are b i =
+    are b (in_drop from blocks b (subst (In b) is_rest (in_take many rest b (subst (In b) is_near i))))
+
 -- how far the blocks are moved: those before a number are, and the others stand as they did
-pub record Shifting (place : ℕ) (left : List Held) (old now : List Block) (number : ℕ) : Type 0 where
+pub record Shifting (place : ℕ) (left : List Stored) (old now : List Block) (number : ℕ) : Type 0 where
   pub len : length now ≡ length old
   pub rest : drop number now ≡ drop number old
-  pub moved : (held : List Held) → place < length held → left ≡ remove held place → AreBlocks held old
+  pub moved : (held : List Stored) → place < length held → left ≡ remove held place → AreBlocks held old
       → AreBlocks left (take number now)
 
-pub shifting_none : (place : ℕ) (left : List Held) (blocks : List Block) → Shifting place left blocks blocks 0
+pub shifting_none : (place : ℕ) (left : List Stored) (blocks : List Block) → Shifting place left blocks blocks 0
 shifting_none place left blocks = record { len = refl; rest = refl; moved = λ held within is are b i. absurd i }
 
-module _ (place : ℕ) (left : List Held) (old now : List Block) (number : ℕ) (d : Block)
+module _ (place : ℕ) (left : List Stored) (old now : List Block) (number : ℕ) (d : Block)
     (s : Shifting place left old now number) (within : number < length now) where
   its : In (get_or now number d) old
   its = in_drop number old (get_or now number d) (subst (In (get_or now number d)) s.rest (at_drop now number d within))
@@ -143,21 +149,21 @@ module _ (place : ℕ) (left : List Held) (old now : List Block) (number : ℕ) 
 -- ---- the least of a piece
 
 -- what is of the least part between two places so far, and between this and a further one
-pub least_more : (held : List Held) (start from end : ℕ) (least next : Option Held) → start ≤ from → from ≤ end
+pub least_more : (held : List Stored) (start from end : ℕ) (least next : Option Stored) → start ≤ from → from ≤ end
     → IsFirstOf (piece start from held) (λ h. true) least → IsFirstOf (piece from end held) (λ h. true) next
     → IsFirstOf (piece start end held) (λ h. true) (lesser least next)
 least_more held start from end least next low high before after =
-    subst (λ (xs : List Held). IsFirstOf xs (λ h. true) (lesser least next))
+    subst (λ (xs : List Stored). IsFirstOf xs (λ h. true) (lesser least next))
     (sym (piece_parts held start from end low high))
     (first_of_both exact_parts held_part (piece start from held) (piece from end held) (λ h. true) least next before
     after)
 
-pub least_none : (held : List Held) (start : ℕ) → IsFirstOf (piece start start held) (λ h. true) None
+pub least_none : (held : List Stored) (start : ℕ) → IsFirstOf (piece start start held) (λ h. true) None
 least_none held start x i = subst (In x) (piece_empty start held) i.0
 
 -- ---- blocks are made
 
-pub blocks_more : (held : List Held) (blocks : List Block) (more : Block) → AreBlocks held blocks → IsBlock held more
+pub blocks_more : (held : List Stored) (blocks : List Block) (more : Block) → AreBlocks held blocks → IsBlock held more
     → AreBlocks held (blocks ++ more ∷ [])
 blocks_more held blocks more are is b i = elim (in_append blocks (more ∷ []) b i) [
   | inl before ↦ are b before

@@ -21,9 +21,9 @@ use Rattle.repo_plan.specs.declared.part.Part.{Part}
 use Rattle.repo_plan.specs.Parts.{Pair, pair_cmp, pair_of, part_cmp, part_of}
 use Rattle.repo_plan.specs.Plan.{is_in}
 use Rattle.repo_plan.proofs.Orders.{exact_pairs, exact_parts}
-use Rattle.repo_store.specs.PacketTable.{Held, PacketTableState}
+use Rattle.repo_store.specs.PacketTable.{Stored, PacketTableState}
 use Rattle.repo_store.specs.StoreList.{is_in_any}
-use Rattle.repo_store.specs.Slots.{AreSame, held_outside, held_outside_all, HasFew}
+use Rattle.repo_store.specs.Slots.{PacketsStay, held_outside, held_outside_all, HasFew}
 use Rattle.repo_store.proofs.StoreLemmas.{outside_more}
 use Rattle.repo_store.proofs.IndexLemmas.{PartLe}
 
@@ -33,10 +33,10 @@ PairLe a b = Le exact_pairs a b
 -- how far the parts of a publication are dropped: some are, and what is outside of it stays
 pub record Dropping (pair : Pair) (old now : PacketTableState) : Type 0 where
   pub outside : held_outside pair now.held ≡ held_outside pair old.held
-  pub same : AreSame old now
+  pub same : PacketsStay old now
   pub spare : now.spare ≡ old.spare
   pub few : length old.held ≤ length now.held + 65536
-  pub by_number : (h : Held) → In h now.held → is_in pair h.0 ≡ true → length old.held ≤ length now.held + h.0.part
+  pub by_number : (h : Stored) → In h now.held → is_in pair h.0 ≡ true → length old.held ≤ length now.held + h.0.part
 
 pub dropping_none : (pair : Pair) (k : PacketTableState) → Dropping pair k k
 dropping_none pair k = record {
@@ -48,11 +48,11 @@ dropping_none pair k = record {
 }
 
 -- a part of the publication goes, and what is outside of it stays
-outside_without : (pair : Pair) (t : Part) (held : List Held) → is_in pair t ≡ true
+outside_without : (pair : Pair) (t : Part) (held : List Stored) → is_in pair t ≡ true
     → held_outside pair (without_key part_cmp t held) ≡ held_outside pair held
 outside_without pair t [] inside = refl
 outside_without pair t (h ∷ held) inside = go (part_cmp t h.0) refl (outside_without pair t held inside) where
-  left : List Held
+  left : List Stored
   left = held_outside pair held
 
   go : (o : Ordering) → part_cmp t h.0 ≡ o → held_outside pair (without_key part_cmp t held) ≡ left
@@ -62,7 +62,7 @@ outside_without pair t (h ∷ held) inside = go (part_cmp t h.0) refl (outside_w
   go Equal e same =
       sym (ap (λ (b : Bool). cond (not b) (h ∷ left) left)
       (ap (is_in pair) (sym (exact_parts.same t h.0 e)) ∙ inside))
-  go Greater e same = ap (λ (xs : List Held). cond (not (is_in pair h.0)) (h ∷ xs) xs) same
+  go Greater e same = ap (λ (xs : List Stored). cond (not (is_in pair h.0)) (h ∷ xs) xs) same
 
 -- ---- the end
 
@@ -116,15 +116,16 @@ later_part pair t u t_inside u_inside le other = go (part_cmp t u) refl le where
   go Greater e h = absurd cc
 
 -- the first part that is left goes: by its number, so many at most went before it
-pub dropping_more : (pair : Pair) (old now new : PacketTableState) (x : Held) → is_in pair x.0 ≡ true → x.0.part < 65536
+pub dropping_more : (pair : Pair) (old now new : PacketTableState) (x : Stored) → is_in pair x.0 ≡ true
+    → x.0.part < 65536
     → Rises part_cmp (keys now.held) → first_from part_cmp (first_of pair) now.held ≡ Some x
-    → new.held ≡ without_key part_cmp x.0 now.held → AreSame now new → new.spare ≡ now.spare → Dropping pair old now
+    → new.held ≡ without_key part_cmp x.0 now.held → PacketsStay now new → new.spare ≡ now.spare → Dropping pair old now
     → Dropping pair old new
 dropping_more pair old now new x inside small rises is held same spare d =
     let found = first_is exact_parts (first_of pair) now.held rises x is in
     let there = value_there exact_parts now.held x rises found.is_in in
     let fewer : length new.held + 1 ≡ length now.held =
-    ap (λ (es : List Held). length es + 1) held ∙ length-without exact_parts.total x.0 x.1 now.held rises there in
+    ap (λ (es : List Stored). length es + 1) held ∙ length-without exact_parts.total x.0 x.1 now.held rises there in
     let before = d.by_number x found.is_in inside in
     record {
       outside = ap (held_outside pair) held ∙ outside_without pair x.0 now.held inside ∙ d.outside;
@@ -145,9 +146,9 @@ dropping_more pair old now new x inside small rises is held same spare d =
     }
 
 all_outside : (pair : Pair) (old now : PacketTableState) → Dropping pair old now
-    → ((h : Held) → In h now.held → is_in pair h.0 ≡ true → ⊥) → now.held ≡ held_outside pair old.held
+    → ((h : Stored) → In h now.held → is_in pair h.0 ≡ true → ⊥) → now.held ≡ held_outside pair old.held
 all_outside pair old now d none =
-    sym (filter_whole (λ (h : Held). not (is_in pair h.0)) now.held
+    sym (filter_whole (λ (h : Stored). not (is_in pair h.0)) now.held
     (λ h i. ap not (false_from_ne_true (is_in pair h.0) (none h i))))
     ∙ d.outside
 
@@ -156,7 +157,7 @@ module _ (pair : Pair) (old now : PacketTableState) (d : Dropping pair old now) 
   dropped_none none = all_outside pair old now d (λ h i inside.
       first_up_to pair h.0 inside (none_from_on exact_parts (first_of pair) now.held none h i))
 
-  pub dropped_other : (x : Held) → Rises part_cmp (keys now.held)
+  pub dropped_other : (x : Stored) → Rises part_cmp (keys now.held)
       → first_from part_cmp (first_of pair) now.held ≡ Some x → is_in pair x.0 ≡ false
       → now.held ≡ held_outside pair old.held
   dropped_other x rises is other = all_outside pair old now d (λ h i inside.
@@ -169,7 +170,7 @@ module _ (pair : Pair) (old now : PacketTableState) (d : Dropping pair old now) 
       ])
 
   -- the next one is gone, and there are fewer
-  pub fewer_held : (new : PacketTableState) (x : Held) → Rises part_cmp (keys now.held) → In x now.held
+  pub fewer_held : (new : PacketTableState) (x : Stored) → Rises part_cmp (keys now.held) → In x now.held
       → new.held ≡ without_key part_cmp x.0 now.held → length new.held < length now.held
   fewer_held new x rises i held =
       let less = length-without exact_parts.total x.0 x.1 now.held rises (value_there exact_parts now.held x rises i) in
@@ -185,11 +186,11 @@ lesser_number pair t number inside less =
     later_part pair t end inside (eq_itself exact_pairs pair) (ap is_le less)
     (λ e. lt_not_le exact_parts t end less (subst (λ (u : Part). PartLe end u) e (le_itself exact_parts end)))
 
-pub few_none : (pair : Pair) (held : List Held) → first_from part_cmp (part_of pair 4) held ≡ None → HasFew pair held
+pub few_none : (pair : Pair) (held : List Stored) → first_from part_cmp (part_of pair 4) held ≡ None → HasFew pair held
 few_none pair held none h i inside =
     lesser_number pair h.0 4 inside (none_from_on exact_parts (part_of pair 4) held none h i)
 
-pub few_other : (pair : Pair) (held : List Held) (x : Held) → Rises part_cmp (keys held)
+pub few_other : (pair : Pair) (held : List Stored) (x : Stored) → Rises part_cmp (keys held)
     → first_from part_cmp (part_of pair 4) held ≡ Some x → is_in pair x.0 ≡ false → HasFew pair held
 few_other pair held x rises is other h i inside =
     let from : Part = part_of pair 4 in
@@ -206,7 +207,7 @@ few_other pair held x rises is other h i inside =
 -- how far the parts of these publications are dropped: those of the first i are
 pub record DroppingAll (pairs : List Pair) (i : ℕ) (old now : PacketTableState) : Type 0 where
   pub left : held_outside_all (drop i pairs) now.held ≡ held_outside_all pairs old.held
-  pub same : AreSame old now
+  pub same : PacketsStay old now
   pub spare : now.spare ≡ old.spare
   pub few : length old.held ≤ length now.held + (length pairs - (length pairs - i)) * 65536
 
@@ -214,7 +215,7 @@ pub dropping_all_none : (pairs : List Pair) (k : PacketTableState) → DroppingA
 dropping_all_none pairs k = record { left = refl; same = λ h i. refl; spare = refl; few = omega arith }
 
 pub dropping_all_more : (pairs : List Pair) (i : ℕ) (d : Pair) (old now new : PacketTableState) → i < length pairs
-    → new.held ≡ held_outside (get_or pairs i d) now.held → AreSame now new → new.spare ≡ now.spare
+    → new.held ≡ held_outside (get_or pairs i d) now.held → PacketsStay now new → new.spare ≡ now.spare
     → length now.held ≤ length new.held + 65536 → DroppingAll pairs i old now → DroppingAll pairs (i + 1) old new
 dropping_all_more pairs i d old now new low held same spare few all = record {
   left =
@@ -224,7 +225,8 @@ dropping_all_more pairs i d old now new low held same spare few all = record {
       ∙ all.left;
   same = λ h j.
       same h j
-      ∙ all.same h (in_filtered (λ (o : Held). not (is_in (get_or pairs i d) o.0)) now.held h (subst (In h) held j)).0;
+      ∙ all.same h
+      (in_filtered (λ (o : Stored). not (is_in (get_or pairs i d) o.0)) now.held h (subst (In h) held j)).0;
   spare = spare ∙ all.spare;
   few = omega (arith, few, all.few, low);
 }
@@ -232,18 +234,18 @@ dropping_all_more pairs i d old now new low held same spare few all = record {
 pub dropping_all_end : (pairs : List Pair) (i : ℕ) (old now : PacketTableState) → length pairs ≤ i
     → DroppingAll pairs i old now → now.held ≡ held_outside_all pairs old.held
 dropping_all_end pairs i old now whole all =
-    sym (filter_whole (λ (h : Held). not (is_in_any [] h.0)) now.held (λ h j. refl))
+    sym (filter_whole (λ (h : Stored). not (is_in_any [] h.0)) now.held (λ h j. refl))
     ∙ sym (at_drop_all (λ (ps : List Pair). held_outside_all ps now.held) pairs i whole)
     ∙ all.left
 
--- as many are dropped as there are fewer
+-- no more entries are held after a drop than before
 pub fewer_left : (pairs : List Pair) (i : ℕ) (old now : PacketTableState) → length pairs ≤ i
     → DroppingAll pairs i old now
     → length now.held ≤ length old.held
 fewer_left pairs i old now whole all =
-    let out : Held → Bool = λ h. not (is_in_any pairs h.0) in
+    let out : Stored → Bool = λ h. not (is_in_any pairs h.0) in
     omega (
       arith,
       ap length (dropping_all_end pairs i old now whole all),
-      length-filter_both (λ (h : Held). is_in_any pairs h.0) out (λ h. refl) old.held,
+      length-filter_both (λ (h : Stored). is_in_any pairs h.0) out (λ h. refl) old.held,
     )

@@ -26,7 +26,7 @@ use Rattle.repo_plan.proofs.Orders.{exact_parts}
 use Rattle.repo_store.specs.declared.names.Names.{Names}
 use Rattle.repo_store.specs.Served.{satisfies}
 use Rattle.repo_object.specs.Packets.{IsPacket, packet_name}
-use Rattle.repo_store.specs.PacketTable.{Slots, at, octets_at, Held, entries_of, PacketTableState}
+use Rattle.repo_store.specs.PacketTable.{Slots, at, octets_at, Stored, entries_of, PacketTableState}
 use Rattle.repo_store.specs.Slots.{is_full_name, has_full_name, HeldIsSound}
 use Rattle.repo_store.specs.Indexes.{name_of, asks, name_matches, held_part, lesser, IsFirstOf, satisfies_held}
 use Rattle.repo_store.specs.NameLayers.{IsIndexOf, is_stored, is_stored_and_matches}
@@ -35,36 +35,36 @@ use Rattle.repo_store.proofs.SlotLemmas.{octets_of}
 
 -- in order of the parts, it is the first that passes
 module _ (slots : Slots) (test : List ℕ → Bool) where
-  abbrev passes : Held → Bool
+  abbrev passes : Stored → Bool
   passes h = test (octets_at slots h.1)
 
-  pub found_is : (held : List Held) (r : Option Held) → Rises part_cmp (keys held) → IsFirstOf held passes r
+  pub found_is : (held : List Stored) (r : Option Stored) → Rises part_cmp (keys held) → IsFirstOf held passes r
       → option_map (λ e. e.1) (find (λ e. test e.1) (entries_of slots held))
-      ≡ option_map (λ (h : Held). octets_at slots h.1) r
+      ≡ option_map (λ (h : Stored). octets_at slots h.1) r
   found_is held r rises first =
       find-revalued part_cmp (octets_at slots) test held
-      ∙ ap (option_map (λ (h : Held). octets_at slots h.1))
+      ∙ ap (option_map (λ (h : Stored). octets_at slots h.1))
       (first_is_one exact_parts held passes (find passes held) r rises (find_first exact_parts passes held rises) first)
 
 -- ---- what is first in the layers of names is first of what is held
 
 module _ (k : PacketTableState) (asked : List ℕ) (p : Bool) (l : Names) (index : IsIndexOf k.slots k.held l) where
-  abbrev test : Held → Bool
+  abbrev test : Stored → Bool
   test = name_matches k.slots asked p
 
-  abbrev InLayers : Held → Type 0
+  abbrev InLayers : Stored → Type 0
   InLayers h =
       Passes l.settled.items test h ⊎ (Passes l.recent.items test h
       ⊎ Passes l.waiting.items (is_stored_and_matches k asked p) h)
 
-  from_layers : (h : Held) → InLayers h → Passes k.held test h
+  from_layers : (h : Stored) → InLayers h → Passes k.held test h
   from_layers h (inl s) = (index.settled h s.0, s.1)
   from_layers h (inr (inl r)) = (index.recent h r.0, r.1)
   from_layers h (inr (inr w)) =
       let both = and_parts (test h) (is_stored k.held h) w.1 in
       (kept_held k.held h both.1, both.0)
 
-  to_layers : (h : Held) → Passes k.held test h → InLayers h
+  to_layers : (h : Stored) → Passes k.held test h → InLayers h
   to_layers h q = elim (in_append l.settled.items (l.recent.items ++ l.waiting.items) h (index.all h q.0)) [
     | inl s ↦ inl (s, q.1)
     | inr b ↦ inr (elim (in_append l.recent.items l.waiting.items h b) [
@@ -73,7 +73,7 @@ module _ (k : PacketTableState) (asked : List ℕ) (p : Bool) (l : Names) (index
     ])
   ]
 
-  pub first_of_layers : (a b c : Option Held) → IsFirstOf l.settled.items test a → IsFirstOf l.recent.items test b
+  pub first_of_layers : (a b c : Option Stored) → IsFirstOf l.settled.items test a → IsFirstOf l.recent.items test b
       → IsFirstOf l.waiting.items (is_stored_and_matches k asked p) c → IsFirstOf k.held test (lesser a (lesser b c))
   first_of_layers a b c settled recent waiting =
       first_same exact_parts held_part InLayers (Passes k.held test) from_layers to_layers (lesser a (lesser b c))
@@ -165,13 +165,13 @@ module _ (name : List Component) (asked octets : List ℕ) (packet : IsPacket oc
 module _ (slots : Slots) (name : List Component) (asked : List ℕ) (is_name : IsName name)
     (spelled : asked ≡ encoding name)
   where
-    test_asks : (p : Bool) (octets : List ℕ) (packet : IsPacket octets) (h : Held) → at slots h.1 ≡ Some octets
+    test_asks : (p : Bool) (octets : List ℕ) (packet : IsPacket octets) (h : Stored) → at slots h.1 ≡ Some octets
         → (name_matches slots asked p h || has_full_name slots asked h) ≡ satisfies name p octets
     test_asks p octets packet h e =
         ap (λ (o : Option (List ℕ)). asks asked p (name_of o) || is_full_name asked o) e
         ∙ test_asked name asked octets packet is_name spelled p
 
-    pub answer_found : (k : PacketTableState) (p : Bool) (a b : Option Held) → slots ≡ k.slots → HeldIsSound k
+    pub answer_found : (k : PacketTableState) (p : Bool) (a b : Option Stored) → slots ≡ k.slots → HeldIsSound k
         → IsFirstOf k.held (name_matches slots asked p) a → IsFirstOf k.held (has_full_name slots asked) b
         → IsFirstOf k.held (satisfies_held slots name p) (lesser a b)
     answer_found k p a b is sound named full =
@@ -193,7 +193,7 @@ module _ (slots : Slots) (name : List Component) (asked : List ℕ) (is_name : I
         (lesser_first exact_parts held_part (Passes k.held (name_matches slots asked p))
         (Passes k.held (has_full_name slots asked)) a b named full)
       where
-        agrees : (h : Held) → In h k.held
+        agrees : (h : Stored) → In h k.held
             → (name_matches slots asked p h || has_full_name slots asked h) ≡ satisfies_held slots name p h
         agrees h i =
             let packet = subst (λ (s : Slots). IsPacket (octets_at s h.1)) (sym is) (sound.packets h i) in

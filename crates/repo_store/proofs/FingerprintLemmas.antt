@@ -21,7 +21,7 @@ use Rattle.repo_plan.specs.Parts.{part_cmp}
 use Rattle.repo_plan.proofs.Orders.{exact_parts}
 use Rattle.repo_store.specs.declared.packet_table.Fingerprinted.{Fingerprinted}
 use Rattle.repo_store.specs.declared.packet_table.Sought.{Sought}
-use Rattle.repo_store.specs.PacketTable.{Slots, at, octets_at, fingerprint_at, Held, PacketTableState}
+use Rattle.repo_store.specs.PacketTable.{Slots, at, octets_at, fingerprint_at, Stored, PacketTableState}
 use Rattle.repo_store.specs.Slots.{AreSlots, fingerprinted_cmp, fingerprinted, AreFingerprints, IsUsed, is_sought}
 use Rattle.repo_store.specs.Slots.{is_sought_at, IsNextOf}
 use Rattle.repo_store.specs.Indexes.{first_part, held_part, IsFirstOf, lesser}
@@ -60,7 +60,7 @@ same_fingerprint : (a b : Fingerprinted) → a.fingerprint ≡ b.fingerprint →
 same_fingerprint a b same h = second_le (nat_cmp a.fingerprint b.fingerprint) (by_slot a b)
     (nat_tied a.fingerprint b.fingerprint same) h
 
--- among those of one fingerprint, what is not before another is in a later slot, or in the same and of no lesser part
+-- of two entries with one fingerprint, the later is in a later slot, or in the same slot and of no lesser part
 not_before : (a b : Fingerprinted) → a.fingerprint ≡ b.fingerprint → is_le (fingerprinted_cmp a b) ≡ true
     → (a.slot < b.slot) ⊎ ((a.slot ≡ b.slot) × PartLe a.part b.part)
 not_before a b same h = go (nat_cmp a.slot b.slot) refl (same_fingerprint a b same h) where
@@ -139,7 +139,7 @@ module _ (fs : List (Fingerprinted × Unit {0})) (rises : Rises fingerprinted_cm
         (after k i own low))
 
 -- whether a slot is used, by what is next from it on
-pub used_next : (fingerprints : List Fingerprinted) (fingerprint slot : ℕ) (next : Held)
+pub used_next : (fingerprints : List Fingerprinted) (fingerprint slot : ℕ) (next : Stored)
     → IsNextOf fingerprints fingerprint slot (Some next)
     → IsUsed fingerprints fingerprint slot (next.1 == slot)
 used_next fingerprints fingerprint slot next is = go (next.1 == slot) refl where
@@ -161,7 +161,7 @@ used_none fingerprints fingerprint slot none t i = none (record { fingerprint = 
     refl (omega arith)
 
 -- what is found by a fingerprint is held
-pub fingerprint_only : (slots : Slots) (held : List Held) (fs : List Fingerprinted) (k : Fingerprinted)
+pub fingerprint_only : (slots : Slots) (held : List Stored) (fs : List Fingerprinted) (k : Fingerprinted)
     → AreFingerprints slots held fs
     → In k fs → In (k.part, k.slot) held × (k.fingerprint ≡ fingerprint_at slots k.slot)
 fingerprint_only slots held fs k are i =
@@ -175,17 +175,17 @@ some_within (o ∷ slots) zero h = omega arith
 some_within (o ∷ slots) (suc s) h = let less = some_within slots s h in omega arith
 
 -- what passes in the slots before one
-abbrev pub Searched : PacketTableState → (Held → Bool) → ℕ → Option Held → Type 0
+abbrev pub Searched : PacketTableState → (Stored → Bool) → ℕ → Option Stored → Type 0
 Searched k test from least = IsFirstBy part_cmp held_part (λ h. Passes k.held test h × (h.1 < from)) least
 
 module _ (k : PacketTableState) (fingerprint : ℕ) (sought : Sought) where
-  abbrev pub test : Held → Bool
+  abbrev pub test : Stored → Bool
   test h = is_sought_at k.slots fingerprint sought h
 
-  abbrev Found : Held → Type 0
+  abbrev Found : Stored → Type 0
   Found h = Passes k.held test h
 
-  of_fingerprint : (h : Held) → test h ≡ true
+  of_fingerprint : (h : Stored) → test h ≡ true
       → (fingerprint_at k.slots h.1 ≡ fingerprint) × (is_sought sought (octets_at k.slots h.1) ≡ true)
   of_fingerprint h e =
       let both = and_parts (fingerprint_at k.slots h.1 == fingerprint) (is_sought sought (octets_at k.slots h.1)) e in
@@ -195,21 +195,21 @@ module _ (k : PacketTableState) (fingerprint : ℕ) (sought : Sought) where
   searched_none h found = omega (arith, found.1)
 
   -- the search is at its end where nothing that passes is in a slot from here on
-  searched_end : (from : ℕ) (least : Option Held) → Searched k test from least → ((h : Held) → Found h → h.1 < from)
+  searched_end : (from : ℕ) (least : Option Stored) → Searched k test from least → ((h : Stored) → Found h → h.1 < from)
       → IsFirstOf k.held test least
   searched_end from least s below =
       first_same exact_parts held_part (λ h. Found h × (h.1 < from)) Found (λ h f. f.0) (λ h f. (f, below h f)) least s
 
-  pub searched_all : (from : ℕ) (least : Option Held) → AreSlots k.slots k.held → length k.slots ≤ from
+  pub searched_all : (from : ℕ) (least : Option Stored) → AreSlots k.slots k.held → length k.slots ≤ from
       → Searched k test from least → IsFirstOf k.held test least
   searched_all from least slots whole s = searched_end from least s (λ h f.
       let within = some_within k.slots h.1 (slots.kept h f.0) in omega (arith, within, whole))
 
   module _ (fs : List Fingerprinted) (fingerprints : AreFingerprints k.slots k.held fs) (from : ℕ) where
-    in_fingerprints : (h : Held) → In h k.held → In (fingerprinted k.slots h) fs
+    in_fingerprints : (h : Stored) → In h k.held → In (fingerprinted k.slots h) fs
     in_fingerprints h i = fingerprints.back (fingerprinted k.slots h) (in_map (fingerprinted k.slots) k.held h i)
 
-    pub searched_past : (least : Option Held) → Searched k test from least → IsNextOf fs fingerprint from None
+    pub searched_past : (least : Option Stored) → Searched k test from least → IsNextOf fs fingerprint from None
         → IsFirstOf k.held test least
     searched_past least s none = searched_end from least s (λ h f. elim (cases_lt h.1 from) [
       | inl low ↦ low
@@ -217,9 +217,9 @@ module _ (k : PacketTableState) (fingerprint : ℕ) (sought : Sought) where
           absurd (none (fingerprinted k.slots h) (in_fingerprints h f.0) (of_fingerprint h f.1).0 (omega (arith, high)))
     ])
 
-    module _ (next : Held) (is : IsNextOf fs fingerprint from (Some next)) where
+    module _ (next : Stored) (is : IsNextOf fs fingerprint from (Some next)) where
       -- what passes in the slots up to the next one is before that, or in it
-      up_to_next : (h : Held) → Found h → h.1 < next.1 + 1
+      up_to_next : (h : Stored) → Found h → h.1 < next.1 + 1
           → (h.1 < from) ⊎ ((h.1 ≡ next.1) × PartLe next.0 h.0)
       up_to_next h f low = elim (cases_lt h.1 from) [
         | inl less ↦ inl less
@@ -230,7 +230,7 @@ module _ (k : PacketTableState) (fingerprint : ℕ) (sought : Sought) where
             ]
       ]
 
-      pub searched_other : (least : Option Held) → is_sought sought (octets_at k.slots next.1) ≡ false
+      pub searched_other : (least : Option Stored) → is_sought sought (octets_at k.slots next.1) ≡ false
           → Searched k test from least → Searched k test (next.1 + 1) least
       searched_other least fails s =
           first_same exact_parts held_part (λ h. Found h × (h.1 < from)) (λ h. Found h × (h.1 < next.1 + 1))
@@ -245,7 +245,7 @@ module _ (k : PacketTableState) (fingerprint : ℕ) (sought : Sought) where
             ],
           )) least s
 
-      pub searched_this : (least : Option Held) → is_sought sought (octets_at k.slots next.1) ≡ true
+      pub searched_this : (least : Option Stored) → is_sought sought (octets_at k.slots next.1) ≡ true
           → Searched k test from least → Searched k test (next.1 + 1) (lesser least (Some next))
       searched_this least passes s =
           first_same exact_parts held_part (λ h. (Found h × (h.1 < from)) ⊎ In_next h)
@@ -273,5 +273,5 @@ module _ (k : PacketTableState) (fingerprint : ℕ) (sought : Sought) where
               fingerprint_only k.slots k.held fs (record { fingerprint = fingerprint; slot = next.1; part = next.0 })
               fingerprints is.0
 
-          In_next : Held → Type 0
+          In_next : Stored → Type 0
           In_next h = Found h × ((h.1 ≡ next.1) × PartLe next.0 h.0)

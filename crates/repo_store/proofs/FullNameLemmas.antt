@@ -17,7 +17,7 @@ use Rattle.sorted_lists.proofs.LeastOnes.{first_of_same}
 use Rattle.repo_plan.proofs.Orders.{exact_parts}
 use Rattle.repo_store.specs.declared.packet_table.Sought.{Sought}
 use Rattle.repo_object.specs.Packets.{packet_name}
-use Rattle.repo_store.specs.PacketTable.{fingerprint_of, Slots, at, octets_at, Held}
+use Rattle.repo_store.specs.PacketTable.{fingerprint_of, Slots, at, octets_at, Stored}
 use Rattle.repo_store.specs.Slots.{AreSlots, is_full_name, has_full_name, is_sought, is_sought_at}
 use Rattle.repo_store.specs.Indexes.{held_part, IsFirstOf}
 use Rattle.repo_store.proofs.NameLemmas.{digest_element}
@@ -54,7 +54,7 @@ is_full-Decides : (asked octets : List ℕ)
 is_full-Decides asked octets =
     slice_eq-Decides unsigned_Decides asked (packet_name octets ++ element 1 (sha256 octets)) _ refl
 
-module _ (slots : Slots) (held : List Held) (asked : List ℕ) where
+module _ (slots : Slots) (held : List Stored) (asked : List ℕ) where
   -- nothing has a full name that none is
   none_has : ((octets : List ℕ) → asked ≢ packet_name octets ++ element 1 (sha256 octets))
       → IsFirstOf held (has_full_name slots asked) None
@@ -126,7 +126,7 @@ module _ (slots : Slots) (held : List Held) (asked : List ℕ) where
           (eq-eqb (fingerprint_of (sha256 octets)) (fingerprint_of digest) (ap fingerprint_of same))
           (seeks octets ∙ and_from _ _ (own_digest.1 same) (own_name.1 (sym both.0)))
 
-    pub full_found : AreSlots slots held → (r : Option Held)
+    pub full_found : AreSlots slots held → (r : Option Stored)
         → IsFirstOf held (is_sought_at slots (fingerprint_of digest) sought) r
         → IsFirstOf held (has_full_name slots asked) r
     full_found are r first =

@@ -15,7 +15,7 @@ use Rattle.sorted_lists.proofs.Climbs.{climbs_parts}
 use Rattle.repo_plan.specs.declared.part.Part.{Part}
 use Rattle.repo_plan.specs.Parts.{part_cmp}
 use Rattle.repo_plan.proofs.Orders.{exact_parts}
-use Rattle.repo_store.specs.PacketTable.{Slots, Held}
+use Rattle.repo_store.specs.PacketTable.{Slots, Stored}
 use Rattle.repo_store.specs.Indexes.{name_at, Key, key_cmp, key_in, AreInOrder, IsPlace, first_part}
 
 -- ---- orders
@@ -65,14 +65,14 @@ parts_le a b same h =
     (ap (slice_cmp nat_cmp a.0) (sym same) ∙ exact_octets.itself a.0) h
 
 -- what is held from a name on: what stands in front has lesser names.
-pub record IsFrom (slots : Slots) (held : List Held) (name : List ℕ) (rest : List Held) : Type 0 where
-  pub prefix : List Held
+pub record IsFrom (slots : Slots) (held : List Stored) (name : List ℕ) (rest : List Stored) : Type 0 where
+  pub prefix : List Stored
   pub whole : prefix ++ rest ≡ held
   pub in_order : AreInOrder slots rest
-  pub before : (h : Held) → In h prefix → slice_cmp nat_cmp (name_at slots h) name ≡ Less
-  pub after : (h : Held) → In h rest → is_le (slice_cmp nat_cmp name (name_at slots h)) ≡ true
+  pub before : (h : Stored) → In h prefix → slice_cmp nat_cmp (name_at slots h) name ≡ Less
+  pub after : (h : Stored) → In h rest → is_le (slice_cmp nat_cmp name (name_at slots h)) ≡ true
 
-pub from_place : (slots : Slots) (held : List Held) (name : List ℕ) (place : ℕ) → AreInOrder slots held
+pub from_place : (slots : Slots) (held : List Stored) (name : List ℕ) (place : ℕ) → AreInOrder slots held
     → IsPlace slots held (name, first_part) place → IsFrom slots held name (drop place held)
 from_place slots held name place climbs at = record {
   prefix = take place held;

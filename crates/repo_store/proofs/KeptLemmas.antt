@@ -13,7 +13,7 @@ use Rattle.sorted_lists.proofs.Lookups.{set_same, set_length}
 use Rattle.sorted_lists.proofs.Filled.{filled, length-filled, in_filled, filled_in, filled_differ}
 use Rattle.repo_plan.specs.declared.part.Part.{Part}
 use Rattle.repo_store.specs.StoreList.{different_octets}
-use Rattle.repo_store.specs.PacketTable.{Slots, at, octets_at, Held, entries_of}
+use Rattle.repo_store.specs.PacketTable.{Slots, at, octets_at, Stored, entries_of}
 use Rattle.repo_store.specs.Slots.{IsHeldIn, AreSlots}
 use Rattle.repo_store.proofs.IndexLemmas.{exact_octets}
 use Rattle.repo_store.proofs.SlotLemmas.{octets_of}
@@ -38,13 +38,13 @@ contains_different (e ∷ es) o =
     ∙ ap (λ (b : Bool). eq_by_cmp by_octets o e.1 || b) (contains_different es o)
 
 -- they are the set of what the slots of what is held have
-different_set : (slots : Slots) (held : List Held)
+different_set : (slots : Slots) (held : List Stored)
     → different_octets (entries_of slots held)
-    ≡ insert_keys by_octets (map (λ (h : Held). octets_at slots h.1) held) []
+    ≡ insert_keys by_octets (map (λ (h : Stored). octets_at slots h.1) held) []
 different_set slots [] = refl
 different_set slots (h ∷ held) = ap (insert_key by_octets (octets_at slots h.1)) (different_set slots held)
 
-pub kept_is : (slots : Slots) (held : List Held) → AreSlots slots held
+pub kept_is : (slots : Slots) (held : List Stored) → AreSlots slots held
     → length (filter is_some slots) ≡ length (different_octets (entries_of slots held))
 kept_is slots held are =
     sym (length-filled slots)
@@ -52,7 +52,7 @@ kept_is slots held are =
     are.different i j (subst IsSome (sym a) refl) (a ∙ sym b))))
     ∙ ap length (set_same exact_octets (filled slots) (map own held) same ∙ sym (different_set slots held))
   where
-    own : Held → Octets
+    own : Stored → Octets
     own h = octets_at slots h.1
 
     same : HaveSame (filled slots) (map own held)
@@ -63,7 +63,7 @@ kept_is slots held are =
           subst (λ (x : Octets). In x (map own held)) (ap (λ (x : Option Octets). unwrap_or x []) place.1)
           (in_map own held (by.by, place.0) by.there);
       back = λ o i.
-          let h : (h : Held) × (In h held) × (o ≡ own h) = from_map own held o i in
+          let h : (h : Stored) × (In h held) × (o ≡ own h) = from_map own held o i in
           subst (λ (x : Octets). In x (filled slots)) (sym h.2)
           (filled_in slots h.0.1 (own h.0) (octets_of (at slots h.0.1) (are.kept h.0 h.1)));
     }

@@ -20,7 +20,7 @@ use Rattle.repo_plan.specs.Plan.{is_in}
 use Rattle.repo_plan.proofs.Orders.{exact_parts}
 use Rattle.repo_store.specs.declared.names.Names.{Names}
 use Rattle.repo_store.specs.StoreList.{is_in_any}
-use Rattle.repo_store.specs.PacketTable.{Slots, at, Held, PacketTableState}
+use Rattle.repo_store.specs.PacketTable.{Slots, at, Stored, PacketTableState}
 use Rattle.repo_store.specs.Slots.{held_outside_all}
 use Rattle.repo_store.specs.Indexes.{name_of, Key, key_cmp, key_in, AreInOrder, GainsOne}
 use Rattle.repo_store.specs.NameLayers.{all_of, LayersAreInOrder, HasRoom, HasSame, IsMerged, IsIndexOf, is_left}
@@ -29,7 +29,7 @@ use Rattle.repo_store.proofs.IndexLemmas.{exact_keys}
 
 -- ---- what the layers have
 
-pub settled_same : (slots : Slots) (settled recent waiting merged after left : List Held)
+pub settled_same : (slots : Slots) (settled recent waiting merged after left : List Stored)
     → IsMerged slots settled recent merged → after ≡ merged → left ≡ []
     → HaveSame (after ++ (left ++ waiting)) (settled ++ (recent ++ waiting))
 settled_same slots settled recent waiting merged after left m is none =
@@ -37,24 +37,24 @@ settled_same slots settled recent waiting merged after left m is none =
     (same_is ((settled ++ recent) ++ waiting) (settled ++ (recent ++ waiting))
     (append_assoc settled recent waiting))))
 
--- what waits is put among what is recent
-pub placed_same : (settled recent waiting sorted more left : List Held) → HaveSame sorted waiting
+-- the waiting entries become recent
+pub placed_same : (settled recent waiting sorted more left : List Stored) → HaveSame sorted waiting
     → HaveSame more (recent ++ sorted) → left ≡ []
     → HaveSame (settled ++ (more ++ left)) (settled ++ (recent ++ waiting))
 placed_same settled recent waiting sorted more left moved same none =
     same_append (same_itself settled) (rw none (same_then (same_is (more ++ []) more (append-nil more))
     (same_then same (same_append (same_itself recent) moved))))
 
--- one more waits
-pub waits_too : (settled recent waiting : List Held) (h : Held)
+-- one more entry waits, and so the layers have one more
+pub waits_too : (settled recent waiting : List Stored) (h : Stored)
     → GainsOne h (settled ++ (recent ++ waiting)) (settled ++ (recent ++ (waiting ++ h ∷ [])))
 waits_too settled recent waiting h =
     same_then (same_is (settled ++ (recent ++ (waiting ++ h ∷ []))) ((settled ++ (recent ++ waiting)) ++ h ∷ [])
-    (ap (λ (xs : List Held). settled ++ xs) (sym (append_assoc recent waiting (h ∷ [])))
+    (ap (λ (xs : List Stored). settled ++ xs) (sym (append_assoc recent waiting (h ∷ [])))
     ∙ sym (append_assoc settled (recent ++ waiting) (h ∷ []))))
     (same_last (settled ++ (recent ++ waiting)) h)
 
--- room for as many is room for fewer
+-- room for `m` entries is room for `n`, if `n` is not more
 pub fewer_room : (l : Names) (n m : ℕ) → n ≤ m → HasRoom l m → HasRoom l n
 fewer_room l n m le room = record {
   waiting = omega (arith, le, room.waiting);
@@ -63,7 +63,7 @@ fewer_room l n m le room = record {
 }
 
 -- what is in order stays so where its packets stay
-order_same : (old new : Slots) (held : List Held) → ((h : Held) → In h held → at new h.1 ≡ at old h.1)
+order_same : (old new : Slots) (held : List Stored) → ((h : Stored) → In h held → at new h.1 ≡ at old h.1)
     → AreInOrder old held → AreInOrder new held
 order_same old new held same climbs =
     climbs_same key_cmp (key_in old) (key_in new) held
@@ -84,7 +84,7 @@ index_none slots l settled recent = record {
 }
 
 -- layers that have what is held, and nothing else
-pub index_same : (slots : Slots) (held : List Held) (l : Names) → Rises part_cmp (keys held)
+pub index_same : (slots : Slots) (held : List Stored) (l : Names) → Rises part_cmp (keys held)
     → LayersAreInOrder slots l → HaveSame (all_of l) held → IsIndexOf slots held l
 index_same slots held l rises in_order same =
     let settled = l.settled.items in
@@ -98,7 +98,7 @@ index_same slots held l rises in_order same =
       all = same.back;
     }
 
-pub index_kept : (slots : Slots) (held : List Held) (index moved : Names) → HasSame index moved
+pub index_kept : (slots : Slots) (held : List Stored) (index moved : Names) → HasSame index moved
     → IsIndexOf slots held index → IsIndexOf slots held moved
 index_kept slots held index moved same indexed = record {
   rises = indexed.rises;
@@ -120,18 +120,18 @@ is_this_slot slot other e = grind (arith, nat_tests, e)
 its_own_slot : (slot : ℕ) → (slot == slot) ≡ true
 its_own_slot slot = grind (arith, nat_tests)
 
-pub kept_held : (held : List Held) (h : Held) → is_stored held h ≡ true → In h held
+pub kept_held : (held : List Stored) (h : Stored) → is_stored held h ≡ true → In h held
 kept_held held h e = go (value_of part_cmp held h.0) refl e where
   go : (o : Option ℕ) → value_of part_cmp held h.0 ≡ o → is_slot h.1 o ≡ true → In h held
   go None s t = absurd (true≢false (sym t))
   go (Some other) s t =
       subst (λ (n : ℕ). In (h.0, n) held) (is_this_slot h.1 other t) (there_value exact_parts held h.0 other s)
 
-pub held_kept : (held : List Held) (h : Held) → Rises part_cmp (keys held) → In h held → is_stored held h ≡ true
+pub held_kept : (held : List Stored) (h : Stored) → Rises part_cmp (keys held) → In h held → is_stored held h ≡ true
 held_kept held h rises i = ap (is_slot h.1) (value_there exact_parts held h rises i) ∙ its_own_slot h.1
 
--- what is left of the layers where what is held no more waits no more
-pub index_looked_through : (slots : Slots) (held : List Held) (index after : Names) → IsIndexOf slots held index
+-- the layers have just the held entries, once waiting entries that are held no more were removed
+pub index_looked_through : (slots : Slots) (held : List Stored) (index after : Names) → IsIndexOf slots held index
     → after.settled.items ≡ index.settled.items → after.recent.items ≡ index.recent.items
     → after.waiting.items ≡ filter (is_stored held) index.waiting.items → HaveSame (all_of after) held
 index_looked_through slots held index after indexed settled_is recent_is waiting_is = same_then
@@ -156,26 +156,26 @@ index_looked_through slots held index after indexed settled_is recent_is waiting
       ];
     })
   where
-    settled : List Held
+    settled : List Stored
     settled = index.settled.items
 
-    recent : List Held
+    recent : List Stored
     recent = index.recent.items
 
-    waiting : List Held
+    waiting : List Stored
     waiting = index.waiting.items
 
-    waits : List Held
+    waits : List Stored
     waits = filter (is_stored held) waiting
 
 -- whether a part that was held still is, however that is found out
-looked_up : (pairs : List Pair) (held : List Held) (h : Held) → In h held
+looked_up : (pairs : List Pair) (held : List Stored) (h : Stored) → In h held
     → contains part_cmp (keys (held_outside_all pairs held)) h.0 ≡ not (is_in_any pairs h.0)
 looked_up pairs held h i =
     ap (λ (ts : List Part). contains part_cmp ts h.0) (keys-filter exact_parts out held)
     ∙ contains-filter exact_parts out (keys held) h.0
     ∙ ap (λ (b : Bool). out h.0 && b)
-    (contains_in exact_parts (keys held) h.0 (in_map (λ (x : Held). x.0) held h i))
+    (contains_in exact_parts (keys held) h.0 (in_map (λ (x : Stored). x.0) held h i))
     ∙ and_true (out h.0)
   where
     out : Part → Bool
@@ -185,7 +185,7 @@ looked_up pairs held h i =
     and_true true = refl
     and_true false = refl
 
-left_outside : (pairs : List Pair) (held : List Held) (h : Held) → In h held
+left_outside : (pairs : List Pair) (held : List Stored) (h : Stored) → In h held
     → is_left pairs (held_outside_all pairs held) h.0 ≡ not (is_in_any pairs h.0)
 left_outside [] held h i = looked_up [] held h i
 left_outside (pair ∷ []) held h i = go (is_in pair h.0) where
@@ -194,33 +194,35 @@ left_outside (pair ∷ []) held h i = go (is_in pair h.0) where
   go false = refl
 left_outside (pair ∷ other ∷ pairs) held h i = looked_up (pair ∷ other ∷ pairs) held h i
 
-filter_within : (p q : Held → Bool) (xs : List Held) → ((h : Held) → In h xs → p h ≡ q h) → filter p xs ≡ filter q xs
+filter_within : (p q : Stored → Bool) (xs : List Stored) → ((h : Stored) → In h xs → p h ≡ q h)
+    → filter p xs ≡ filter q xs
 filter_within p q [] agree = refl
 filter_within p q (x ∷ xs) agree =
     let rest : filter p xs ≡ filter q xs = filter_within p q xs (λ h i. agree h (inr i)) in
     λ j. cond (agree x (inl refl) j) (x ∷ rest j) (rest j)
 
 -- what is taken out before is what goes otherwise
-pub left_either : (pairs : List Pair) (held : List Held) (taken : Bool) (xs : List Held)
-    → ((h : Held) → In h xs → In h held)
+pub left_either : (pairs : List Pair) (held : List Stored) (taken : Bool) (xs : List Stored)
+    → ((h : Stored) → In h xs → In h held)
     → left_unless taken pairs (held_outside_all pairs held) (taken_out taken pairs xs) ≡ held_outside_all pairs xs
 left_either pairs held true xs among = refl
 left_either pairs held false xs among =
-    filter_within (λ (h : Held). is_left pairs (held_outside_all pairs held) h.0)
-    (λ (h : Held). not (is_in_any pairs h.0)) xs (λ h i. left_outside pairs held h (among h i))
+    filter_within (λ (h : Stored). is_left pairs (held_outside_all pairs held) h.0)
+    (λ (h : Stored). not (is_in_any pairs h.0)) xs (λ h i. left_outside pairs held h (among h i))
 
-module _ (old new : Slots) (held : List Held) (index : Names) (indexed : IsIndexOf old held index) where
-  abbrev settled : List Held
+module _ (old new : Slots) (held : List Stored) (index : Names) (indexed : IsIndexOf old held index) where
+  abbrev settled : List Stored
   settled = index.settled.items
 
-  abbrev recent : List Held
+  abbrev recent : List Stored
   recent = index.recent.items
 
-  abbrev waiting : List Held
+  abbrev waiting : List Stored
   waiting = index.waiting.items
 
-  -- one more is held, and waits
-  pub index_more : (more : List Held) (after : Names) (h : Held) → ((o : Held) → In o held → at new o.1 ≡ at old o.1)
+  -- one more entry is held, and waits
+  pub index_more : (more : List Stored) (after : Names) (h : Stored)
+      → ((o : Stored) → In o held → at new o.1 ≡ at old o.1)
       → Rises part_cmp (keys more) → after.settled.items ≡ settled → after.recent.items ≡ recent
       → GainsOne h held more → GainsOne h (all_of index) (all_of after) → IsIndexOf new more after
   index_more more after h same rises settled_is recent_is gains gained = record {
@@ -243,27 +245,29 @@ module _ (old new : Slots) (held : List Held) (index : Names) (indexed : IsIndex
 
   -- ---- what is left
 
-  module _ (pairs : List Pair) (same : (h : Held) → In h (held_outside_all pairs held) → at new h.1 ≡ at old h.1) where
-    abbrev left : List Held
+  module _ (pairs : List Pair) (same : (h : Stored) → In h (held_outside_all pairs held)
+      → at new h.1 ≡ at old h.1) where
+    abbrev left : List Stored
     left = held_outside_all pairs held
 
-    abbrev out : Held → Bool
+    abbrev out : Stored → Bool
     out h = not (is_in_any pairs h.0)
 
-    stays_held : (xs : List Held) → ((h : Held) → In h xs → In h held) → (h : Held) → In h (held_outside_all pairs xs)
+    stays_held : (xs : List Stored) → ((h : Stored) → In h xs → In h held) → (h : Stored)
+        → In h (held_outside_all pairs xs)
         → In h left
     stays_held xs among h i =
         let both = in_filtered out xs h i in
         in_filter out held h (among h both.0) both.1
 
-    layer_left : (xs after : List Held) → ((h : Held) → In h xs → In h held) → after ≡ held_outside_all pairs xs
+    layer_left : (xs after : List Stored) → ((h : Stored) → In h xs → In h held) → after ≡ held_outside_all pairs xs
         → AreInOrder old xs → AreInOrder new after
     layer_left xs after among is climbs =
         subst (AreInOrder new) (sym is)
         (order_same old new (held_outside_all pairs xs) (λ h i. same h (stays_held xs among h i))
         (climbs_filter exact_keys (key_in old) out xs climbs))
 
-    left_stays : (xs : List Held) (h : Held) → In h left → In h xs → In h (held_outside_all pairs xs)
+    left_stays : (xs : List Stored) (h : Stored) → In h left → In h xs → In h (held_outside_all pairs xs)
     left_stays xs h i j = in_filter out xs h j (in_filtered out held h i).1
 
     left_rises : Rises part_cmp (keys left)

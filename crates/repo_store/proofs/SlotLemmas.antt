@@ -23,10 +23,10 @@ use Rattle.repo_store.specs.declared.packet_table.Fingerprinted.{Fingerprinted}
 use Rattle.repo_store.specs.declared.packet_table.Sought.{Sought}
 use Rattle.repo_store.specs.declared.packet_table.PacketTable.TheInside.{Inside}
 use Rattle.repo_object.specs.Packets.{IsPacket}
-use Rattle.repo_store.specs.PacketTable.{fingerprint_of, Slots, at, octets_at, fingerprint_at, Held, PacketTableState}
+use Rattle.repo_store.specs.PacketTable.{fingerprint_of, Slots, at, octets_at, fingerprint_at, Stored, PacketTableState}
 use Rattle.repo_store.specs.Slots.{IsHeldIn, AreSlots, KeepsOne, fingerprinted_cmp, fingerprinted, AreFingerprints}
 use Rattle.repo_store.specs.Slots.{IsUsed, is_sought}
-use Rattle.repo_store.specs.Slots.{is_sought_at, IsKeptIn, IsKept, HeldIsSound}
+use Rattle.repo_store.specs.Slots.{is_sought_at, IsStoredIn, TableIsSound, HeldIsSound}
 use Rattle.repo_store.specs.Indexes.{GainsOne, IsFirstOf}
 use Rattle.repo_store.proofs.FingerprintLemmas.{exact_fingerprints, fingerprint_only}
 
@@ -51,7 +51,7 @@ octets_of (Some x) h = refl
 abbrev pub seen : Inside → PacketTableState
 seen k = record { slots = k.packets.slots; held = k.parts.entries; spare = k.spare }
 
-pub sound_seen : (k : Inside) → IsKept k → HeldIsSound (seen k)
+pub sound_seen : (k : Inside) → TableIsSound k → HeldIsSound (seen k)
 sound_seen k kept = record {
   rises = kept.in_order;
   kept = kept.slots.kept;
@@ -60,7 +60,7 @@ sound_seen k kept = record {
 }
 
 -- slots that keep their packets
-fingerprints_same : (old new : Slots) (held : List Held) → ((h : Held) → In h held → at new h.1 ≡ at old h.1)
+fingerprints_same : (old new : Slots) (held : List Stored) → ((h : Stored) → In h held → at new h.1 ≡ at old h.1)
     → map (fingerprinted old) held ≡ map (fingerprinted new) held
 fingerprints_same old new held same = map_same (fingerprinted old) (fingerprinted new) held (λ h i.
     ap (λ (x : Option (List ℕ)).
@@ -69,7 +69,7 @@ fingerprints_same old new held same = map_same (fingerprinted old) (fingerprinte
 
 -- ---- one more
 
-pub keep_found : (slots : Slots) (held : List Held) (octets : List ℕ) (slot : ℕ) → AreSlots slots held
+pub keep_found : (slots : Slots) (held : List Stored) (octets : List ℕ) (slot : ℕ) → AreSlots slots held
     → at slots slot ≡ Some octets → KeepsOne octets slots slots slot
 keep_found slots held octets slot are there = record {
   there = there;
@@ -78,8 +78,8 @@ keep_found slots held octets slot are there = record {
   once = λ s e. sym (are.different slot s (subst IsSome (sym there) refl) (there ∙ sym e));
 }
 
-pub keep_new : (old new : Slots) (held : List Held) (octets : List ℕ) (slot : ℕ) → AreSlots old held
-    → ((h : Held) → In h held → at old h.1 ≢ Some octets) → at old slot ≡ None → at new slot ≡ Some octets
+pub keep_new : (old new : Slots) (held : List Stored) (octets : List ℕ) (slot : ℕ) → AreSlots old held
+    → ((h : Stored) → In h held → at old h.1 ≢ Some octets) → at old slot ≡ None → at new slot ≡ Some octets
     → ((s : ℕ) → s ≢ slot → at new s ≡ at old s) → KeepsOne octets old new slot
 keep_new old new held octets slot are none vacant there others = record {
   there = there;
@@ -94,10 +94,10 @@ keep_new old new held octets slot are none vacant there others = record {
 }
 
 -- the slot of octets that were looked for, or a new one
-pub keeps_one : (held : List Held) (fingerprint : ℕ) (sought : Sought) (octets : List ℕ) (found : Option Held)
+pub keeps_one : (held : List Stored) (fingerprint : ℕ) (sought : Sought) (octets : List ℕ) (found : Option Stored)
     (old new : Slab (List ℕ)) (slot : ℕ) → AreSlots old.slots held → fingerprint ≡ fingerprint_of (sha256 octets)
     → ((o : List ℕ) → is_sought sought o ≡ pointwise nat_eq o octets)
-    → IsFirstOf held (is_sought_at old.slots fingerprint sought) found → IsKeptIn found octets old new slot
+    → IsFirstOf held (is_sought_at old.slots fingerprint sought) found → IsStoredIn found octets old new slot
     → KeepsOne octets old.slots new.slots slot
 keeps_one held fingerprint sought octets None old new slot are is seeks first kept =
     keep_new old.slots new.slots held octets slot are (λ h i e.
@@ -122,15 +122,15 @@ keeps_one held fingerprint sought octets (Some h) old new slot are is seeks firs
     (subst (λ (n : Slab (List ℕ)). KeepsOne octets old.slots n.slots h.1) (sym kept.1)
     (keep_found old.slots held octets h.1 are there))
 
-module _ (old new : Slots) (octets : List ℕ) (held more : List Held) (h : Held) (are : AreSlots old held)
+module _ (old new : Slots) (octets : List ℕ) (held more : List Stored) (h : Stored) (are : AreSlots old held)
     (keeps : KeepsOne octets old new h.1) (gains : GainsOne h held more) where
-  among : (o : Held) → In o more → (o ≡ h) ⊎ In o held
+  among : (o : Stored) → In o more → (o ≡ h) ⊎ In o held
   among o i = gains.there o i
 
   pub slots_more : IsPacket octets → AreSlots new more
   slots_more packet = record {
     kept = λ o i. elim (among o i) [
-      | inl e ↦ subst (λ (x : Held). IsSome (at new x.1)) (sym e) (subst IsSome (sym keeps.there) refl)
+      | inl e ↦ subst (λ (x : Stored). IsSome (at new x.1)) (sym e) (subst IsSome (sym keeps.there) refl)
       | inr j ↦ some_as (at new o.1) (at old o.1) (keeps.others o.1 (are.kept o j)) (are.kept o j)
     ];
     named = λ s x e. elim (keeps.only s (subst IsSome (sym e) refl)) [
@@ -184,11 +184,11 @@ module _ (old new : Slots) (octets : List ℕ) (held more : List Held) (h : Held
 -- ---- one less
 
 -- one is gone, and no other of its part is there
-pub record LosesOne (h : Held) (old new : List Held) : Type 0 where
-  pub only : (o : Held) → In o new → In o old × (o.0 ≢ h.0)
-  pub kept : (o : Held) → In o old → (o ≡ h) ⊎ In o new
+pub record LosesOne (h : Stored) (old new : List Stored) : Type 0 where
+  pub only : (o : Stored) → In o new → In o old × (o.0 ≢ h.0)
+  pub kept : (o : Stored) → In o old → (o ≡ h) ⊎ In o new
 
-pub loses_part : (held : List Held) (h : Held) → In h held → Rises part_cmp (keys held)
+pub loses_part : (held : List Stored) (h : Stored) → In h held → Rises part_cmp (keys held)
     → LosesOne h held (without_key part_cmp h.0 held)
 loses_part held h there rises = record {
   only = λ o i. in_without exact_parts h.0 held rises o i;
@@ -202,11 +202,11 @@ loses_part held h there rises = record {
   ];
 }
   where
-    stays : (o : Held) → In o held → o.0 ≢ h.0 → In o (without_key part_cmp h.0 held)
+    stays : (o : Stored) → In o held → o.0 ≢ h.0 → In o (without_key part_cmp h.0 held)
     stays o i other = without_in exact_parts h.0 held o i other
 
-module _ (old new : Slots) (held left : List Held) (h : Held) (are : AreSlots old held)
-    (loses : LosesOne h held left) (same : (o : Held) → In o left → at new o.1 ≡ at old o.1) where
+module _ (old new : Slots) (held left : List Stored) (h : Stored) (are : AreSlots old held)
+    (loses : LosesOne h held left) (same : (o : Stored) → In o left → at new o.1 ≡ at old o.1) where
   pub slots_less : ((s : ℕ) → IsSome (at new s) → at new s ≡ at old s) → (IsSome (at new h.1) → IsHeldIn left h.1)
       → AreSlots new left
   slots_less only still = record {
@@ -216,7 +216,7 @@ module _ (old new : Slots) (held left : List Held) (h : Held) (are : AreSlots ol
         let by : IsHeldIn held s = are.used s (subst IsSome (only s k) k) in
         elim (loses.kept (by.by, s) by.there) [
           | inl own ↦
-              let at_slot : h.1 ≡ s = sym (ap (λ (o : Held). o.1) own) in
+              let at_slot : h.1 ≡ s = sym (ap (λ (o : Stored). o.1) own) in
               subst (IsHeldIn left) at_slot (still (subst (λ (n : ℕ). IsSome (at new n)) (sym at_slot) k))
           | inr j ↦ record { by = by.by; there = j }
         ];
@@ -252,24 +252,24 @@ pub room_kept : (old new : Slab (List ℕ)) → slab_len new + 1 ≡ slab_len ol
 room_kept old new len capacity n h = omega arith
 
 -- what is left where a part goes
-pub record PartGone (old new : Slots) (left : List Held) (after : List (Fingerprinted × Unit {0})) : Type 0 where
+pub record PartGone (old new : Slots) (left : List Stored) (after : List (Fingerprinted × Unit {0})) : Type 0 where
   pub in_order : Rises part_cmp (keys left)
   pub fingerprints_in_order : Rises fingerprinted_cmp (keys after)
   pub slots : AreSlots new left
   pub fingerprints : AreFingerprints new left (keys after)
-  pub same : (o : Held) → In o left → at new o.1 ≡ at old o.1
+  pub same : (o : Stored) → In o left → at new o.1 ≡ at old o.1
 
-module _ (k : Inside) (kept : IsKept k) (h : Held) (there : In h k.parts.entries) where
+module _ (k : Inside) (kept : TableIsSound k) (h : Stored) (there : In h k.parts.entries) where
   abbrev old : Slots
   old = k.packets.slots
 
-  abbrev left : List Held
+  abbrev left : List Stored
   left = without_key part_cmp h.0 k.parts.entries
 
   abbrev fingerprints_left : List (Fingerprinted × Unit {0})
   fingerprints_left = without_key fingerprinted_cmp (fingerprinted old h) k.fingerprints.entries
 
-  part_gone : (new : Slots) → ((o : Held) → In o left → at new o.1 ≡ at old o.1)
+  part_gone : (new : Slots) → ((o : Stored) → In o left → at new o.1 ≡ at old o.1)
       → ((s : ℕ) → IsSome (at new s) → at new s ≡ at old s) → (IsSome (at new h.1) → IsHeldIn left h.1)
       → PartGone old new left fingerprints_left
   part_gone new same only still =
@@ -307,7 +307,7 @@ module _ (k : Inside) (kept : IsKept k) (h : Held) (there : In h k.parts.entries
         apart : (s : ℕ) → IsSome (at new s) → s ≢ h.1
         apart s j e = some_or_none (at new s) j (ap (at new) e ∙ vacant)
 
-        same : (o : Held) → In o left → at new o.1 ≡ at old o.1
+        same : (o : Stored) → In o left → at new o.1 ≡ at old o.1
         same o i = others o.1 (λ e.
             unused o.0
             (subst (λ (s : ℕ). In (record { fingerprint = fingerprint_at old s; slot = s; part = o.0 })
@@ -315,7 +315,7 @@ module _ (k : Inside) (kept : IsKept k) (h : Held) (there : In h k.parts.entries
             (still_fingerprints.back (fingerprinted old o) (in_map (fingerprinted old) left o i))))
 
   -- the same of lists and a fingerprint that are these
-  module _ (fingerprint : ℕ) (gone : List Held) (after : List (Fingerprinted × Unit {0}))
+  module _ (fingerprint : ℕ) (gone : List Stored) (after : List (Fingerprinted × Unit {0}))
       (is : fingerprint ≡ fingerprint_at old h.1)
       (parts : gone ≡ left) (others : after
       ≡ without_key fingerprinted_cmp (record { fingerprint = fingerprint; slot = h.1; part = h.0 })

@@ -17,7 +17,7 @@ use Rattle.repo_plan.specs.Parts.{Pair, part_cmp}
 use Rattle.repo_plan.specs.Plan.{is_in}
 use Rattle.repo_store.specs.StoreList.{packets_in, packets_outside, is_in_any, packets_in_any, packets_outside_all}
 use Rattle.repo_store.specs.StoreList.{with_packet, StoreIsSound}
-use Rattle.repo_store.specs.PacketTable.{Slots, at, octets_at, Held, entries_of, PacketTableState}
+use Rattle.repo_store.specs.PacketTable.{Slots, at, octets_at, Stored, entries_of, PacketTableState}
 use Rattle.repo_store.specs.Slots.{HeldIsSound}
 
 abbrev Packets : Type 0
@@ -26,10 +26,10 @@ Packets = List (Part × List ℕ)
 -- ---- what is held, with its packets
 
 -- slots that keep their packets
-pub entries_same : (old new : Slots) (held : List Held) → ((h : Held) → In h held → at new h.1 ≡ at old h.1)
+pub entries_same : (old new : Slots) (held : List Stored) → ((h : Stored) → In h held → at new h.1 ≡ at old h.1)
     → entries_of new held ≡ entries_of old held
 entries_same old new held same =
-    map_same (λ (h : Held). (h.0, octets_at new h.1)) (λ (h : Held). (h.0, octets_at old h.1)) held
+    map_same (λ (h : Stored). (h.0, octets_at new h.1)) (λ (h : Stored). (h.0, octets_at old h.1)) held
     (λ h i. ap (λ (o : Option (List ℕ)). (h.0, unwrap_or o [])) (same h i))
 
 -- ---- a packet more
@@ -51,7 +51,7 @@ pub sound_of : (k : PacketTableState) → HeldIsSound k → StoreIsSound (entrie
 sound_of k sound = record {
   in_order = subst (Rises part_cmp) (sym (keys-revalued part_cmp (octets_at k.slots) k.held)) sound.rises;
   are_data = all_in (λ e. IsOk (data_of e.1)) (entries_of k.slots k.held) (λ e i.
-      let h = from_map (λ (o : Held). (o.0, octets_at k.slots o.1)) k.held e i in
+      let h = from_map (λ (o : Stored). (o.0, octets_at k.slots o.1)) k.held e i in
       let packet = sound.packets h.0 h.1 in
       subst (λ (x : Part × List ℕ). IsOk (data_of x.1)) (sym h.2) (subst IsOk (sym packet.read) refl));
 }

@@ -20,7 +20,7 @@ use Rattle.repo_plan.specs.Parts.{Pair, part_cmp, part_of, pair_of}
 use Rattle.repo_plan.specs.Plan.{is_in}
 use Rattle.repo_plan.proofs.Orders.{exact_pairs, exact_parts}
 use Rattle.repo_store.specs.declared.names.Names.{Names}
-use Rattle.repo_store.specs.PacketTable.{Slots, Held}
+use Rattle.repo_store.specs.PacketTable.{Slots, Stored}
 use Rattle.repo_store.specs.Slots.{held_outside, HasFew}
 use Rattle.repo_store.specs.Indexes.{Key, key_cmp, key_in, AreInOrder, IsPlace, is_of, outside_part, IsAlone, is_one_of}
 use Rattle.repo_store.specs.NameLayers.{AreAmong, IsIndexOf}
@@ -29,64 +29,64 @@ use Rattle.repo_store.proofs.IndexLemmas.{exact_keys}
 -- ---- what is of a part
 
 -- what comes first from the place of one on is of its part, where anything is
-pub none_of : (slots : Slots) (held : List Held) (one : Held) (place : ℕ) → AreInOrder slots held → IsAlone one held
+pub none_of : (slots : Slots) (held : List Stored) (one : Stored) (place : ℕ) → AreInOrder slots held → IsAlone one held
     → IsPlace slots held (key_in slots one) place → is_one_of one.0 (slice_get (drop place held) 0) ≡ false
-    → (h : Held) → In h held → is_of one.0 h ≡ false
+    → (h : Stored) → In h held → is_of one.0 h ≡ false
 none_of slots held one place climbs alone at other h i = false_from_ne_true (is_of one.0 h) (λ own.
     let same = alone h i (sym (eq_same exact_parts one.0 h.0 own)) in
     elim (in_append (take place held) (drop place held) h (subst (In h) (sym (take-append-drop place held)) i)) [
       | inl before ↦
           lt_not_le exact_keys (key h) (key one) (at.before h before)
-          (subst (λ (o : Held). is_le (key_cmp (key one) (key o)) ≡ true) (sym same) (le_itself exact_keys (key one)))
+          (subst (λ (o : Stored). is_le (key_cmp (key one) (key o)) ≡ true) (sym same) (le_itself exact_keys (key one)))
       | inr after ↦
           in_back (drop place held) (climbs_parts exact_keys (key_in slots) place held climbs).1 at.after other
-          (subst (λ (o : Held). In o (drop place held)) same after)
+          (subst (λ (o : Stored). In o (drop place held)) same after)
     ])
   where
-    key : Held → Key
+    key : Stored → Key
     key x = key_in slots x
 
-    in_back : (xs : List Held) → AreInOrder slots xs
-        → ((x : Held) → In x xs → is_le (key_cmp (key one) (key x)) ≡ true)
+    in_back : (xs : List Stored) → AreInOrder slots xs
+        → ((x : Stored) → In x xs → is_le (key_cmp (key one) (key x)) ≡ true)
         → is_one_of one.0 (slice_get xs 0) ≡ false → In one xs → ⊥
     in_back [] c after none j = absurd j
     in_back (x ∷ xs) c after none (inl e) =
         true≢false
-        (sym (subst (λ (o : Held). is_of one.0 o ≡ true) e (eq_itself exact_parts one.0)) ∙ none)
+        (sym (subst (λ (o : Stored). is_of one.0 o ≡ true) e (eq_itself exact_parts one.0)) ∙ none)
     in_back (x ∷ xs) c after none (inr j) =
         let same : key one ≡ key x = le_both exact_keys (key one) (key x) (after x (inl refl)) (c.0 one j) in
         true≢false
         (sym (subst (λ (k : Key). eq_by_cmp part_cmp one.0 k.1 ≡ true) same (eq_itself exact_parts one.0)) ∙ none)
 
-in_removed : (xs : List Held) (i : ℕ) (x : Held) → In x (remove xs i) → In x xs
+in_removed : (xs : List Stored) (i : ℕ) (x : Stored) → In x (remove xs i) → In x xs
 in_removed [] zero x j = j
 in_removed [] (suc i) x j = j
 in_removed (y ∷ xs) zero x j = inr j
 in_removed (y ∷ xs) (suc i) x (inl e) = inl e
 in_removed (y ∷ xs) (suc i) x (inr j) = inr (in_removed xs i x j)
 
-climbs_removed : (slots : Slots) (xs : List Held) (i : ℕ) → AreInOrder slots xs → AreInOrder slots (remove xs i)
+climbs_removed : (slots : Slots) (xs : List Stored) (i : ℕ) → AreInOrder slots xs → AreInOrder slots (remove xs i)
 climbs_removed slots [] zero c = c
 climbs_removed slots [] (suc i) c = c
 climbs_removed slots (x ∷ xs) zero c = c.1
 climbs_removed slots (x ∷ xs) (suc i) c = ((λ y j. c.0 y (in_removed xs i y j)), climbs_removed slots xs i c.1)
 
-outside_removed : (t : Part) (xs : List Held) (i : ℕ) → is_one_of t (slice_get (drop i xs) 0) ≡ true
+outside_removed : (t : Part) (xs : List Stored) (i : ℕ) → is_one_of t (slice_get (drop i xs) 0) ≡ true
     → outside_part t (remove xs i) ≡ outside_part t xs
 outside_removed t [] zero h = refl
 outside_removed t [] (suc i) h = refl
 outside_removed t (x ∷ xs) zero h =
     sym (ap (λ (b : Bool). cond (not b) (x ∷ outside_part t xs) (outside_part t xs)) h)
 outside_removed t (x ∷ xs) (suc i) h =
-    ap (λ (ys : List Held). cond (not (is_of t x)) (x ∷ ys) ys) (outside_removed t xs i h)
+    ap (λ (ys : List Stored). cond (not (is_of t x)) (x ∷ ys) ys) (outside_removed t xs i h)
 
 -- how far what is of a part is taken out
-pub record Taking (slots : Slots) (one : Held) (old now : List Held) : Type 0 where
+pub record Taking (slots : Slots) (one : Stored) (old now : List Stored) : Type 0 where
   pub outside : outside_part one.0 now ≡ outside_part one.0 old
   pub in_order : AreInOrder slots now
   pub alone : IsAlone one now
 
-pub taking_more : (slots : Slots) (one : Held) (old now : List Held) (place : ℕ)
+pub taking_more : (slots : Slots) (one : Stored) (old now : List Stored) (place : ℕ)
     → is_one_of one.0 (slice_get (drop place now) 0) ≡ true → Taking slots one old now
     → Taking slots one old (remove now place)
 taking_more slots one old now place own t = record {
@@ -96,17 +96,17 @@ taking_more slots one old now place own t = record {
 }
 
 -- nothing is of the part
-pub none_outside : (t : Part) (held : List Held) → ((h : Held) → In h held → is_of t h ≡ false)
+pub none_outside : (t : Part) (held : List Stored) → ((h : Stored) → In h held → is_of t h ≡ false)
     → held ≡ outside_part t held
-none_outside t held none = sym (filter_whole (λ (h : Held). not (is_of t h)) held (λ h i. ap not (none h i)))
+none_outside t held none = sym (filter_whole (λ (h : Stored). not (is_of t h)) held (λ h i. ap not (none h i)))
 
 -- no part is held twice
-pub alone_among : (held xs : List Held) (t : Part) (slot : ℕ) → Rises part_cmp (keys held)
-    → ((h : Held) → In h xs → In h held) → value_of part_cmp held t ≡ Some slot → IsAlone (t, slot) xs
+pub alone_among : (held xs : List Stored) (t : Part) (slot : ℕ) → Rises part_cmp (keys held)
+    → ((h : Stored) → In h xs → In h held) → value_of part_cmp held t ≡ Some slot → IsAlone (t, slot) xs
 alone_among held xs t slot rises among found h i same =
     unique exact_parts held rises h (t, slot) (among h i) (there_value exact_parts held t slot found) same
 
-pub no_part : (held xs : List Held) (t : Part) → Rises part_cmp (keys held) → ((h : Held) → In h xs → In h held)
+pub no_part : (held xs : List Stored) (t : Part) → Rises part_cmp (keys held) → ((h : Stored) → In h xs → In h held)
     → value_of part_cmp held t ≡ None → xs ≡ outside_part t xs
 no_part held xs t rises among none =
     none_outside t xs (λ h i. false_from_ne_true (is_of t h) (λ own.
@@ -118,29 +118,29 @@ no_part held xs t rises among none =
 -- ---- what is of a publication
 
 -- how far the parts of a publication are taken out: those of lesser numbers are
-pub record TakingPair (pair : Pair) (old now : List Held) (number : ℕ) : Type 0 where
+pub record TakingPair (pair : Pair) (old now : List Stored) (number : ℕ) : Type 0 where
   pub outside : held_outside pair now ≡ held_outside pair old
-  pub numbers : (h : Held) → In h now → is_in pair h.0 ≡ true → number ≤ h.0.part
+  pub numbers : (h : Stored) → In h now → is_in pair h.0 ≡ true → number ≤ h.0.part
 
-pub taking_pair_none : (pair : Pair) (held : List Held) → TakingPair pair held held 0
+pub taking_pair_none : (pair : Pair) (held : List Stored) → TakingPair pair held held 0
 taking_pair_none pair held = record { outside = refl; numbers = λ h i inside. omega arith }
 
 -- what is outside of a publication is of other parts than its own
-outside_both : (pair : Pair) (t : Part) (h : Held) → is_in pair t ≡ true
+outside_both : (pair : Pair) (t : Part) (h : Stored) → is_in pair t ≡ true
     → (not (is_of t h) && not (is_in pair h.0)) ≡ not (is_in pair h.0)
 outside_both pair t h inside = go (is_of t h) refl where
   go : (b : Bool) → is_of t h ≡ b → (not b && not (is_in pair h.0)) ≡ not (is_in pair h.0)
   go true own = sym (ap not (ap (is_in pair) (sym (eq_same exact_parts t h.0 own)) ∙ inside))
   go false other = refl
 
-pub taking_pair_more : (pair : Pair) (old now new : List Held) (number : ℕ)
+pub taking_pair_more : (pair : Pair) (old now new : List Stored) (number : ℕ)
     → new ≡ outside_part (part_of pair number) now → TakingPair pair old now number
     → TakingPair pair old new (number + 1)
 taking_pair_more pair old now new number is t = record {
   outside =
       ap (held_outside pair) is
       ∙ filter-filter out others now
-      ∙ filter_agree (λ (h : Held). others h && out h) out
+      ∙ filter_agree (λ (h : Stored). others h && out h) out
       (λ h. outside_both pair part h (eq_itself exact_pairs pair)) now
       ∙ t.outside;
   numbers =
@@ -160,16 +160,16 @@ taking_pair_more pair old now new number is t = record {
     part : Part
     part = part_of pair number
 
-    others : Held → Bool
+    others : Stored → Bool
     others h = not (is_of part h)
 
-    out : Held → Bool
+    out : Stored → Bool
     out h = not (is_in pair h.0)
 
-pub taking_pair_all : (pair : Pair) (held old now : List Held) (number : ℕ) → 4 ≤ number → HasFew pair held
-    → ((h : Held) → In h now → In h held) → TakingPair pair old now number → now ≡ held_outside pair old
+pub taking_pair_all : (pair : Pair) (held old now : List Stored) (number : ℕ) → 4 ≤ number → HasFew pair held
+    → ((h : Stored) → In h now → In h held) → TakingPair pair old now number → now ≡ held_outside pair old
 taking_pair_all pair held old now number whole few among t =
-    sym (filter_whole (λ (h : Held). not (is_in pair h.0)) now
+    sym (filter_whole (λ (h : Stored). not (is_in pair h.0)) now
     (λ h i. ap not (false_from_ne_true (is_in pair h.0) (λ inside.
     let low = t.numbers h i inside in
     let high = few h (among h i) inside in
@@ -178,7 +178,7 @@ taking_pair_all pair held old now number whole few among t =
 
 -- ---- in layers
 
-pub among : (slots : Slots) (held : List Held) (index : Names) → IsIndexOf slots held index
+pub among : (slots : Slots) (held : List Stored) (index : Names) → IsIndexOf slots held index
     → AreAmong slots held index
 among slots held index indexed = record {
   rises = indexed.rises;
@@ -187,7 +187,7 @@ among slots held index indexed = record {
   recent = indexed.recent;
 }
 
-pub fewer_among : (slots : Slots) (held : List Held) (old new : Names) (p : Held → Bool)
+pub fewer_among : (slots : Slots) (held : List Stored) (old new : Names) (p : Stored → Bool)
     → new.settled.items ≡ filter p old.settled.items → new.recent.items ≡ filter p old.recent.items
     → AreAmong slots held old → AreAmong slots held new
 fewer_among slots held old new p settled recent a = record {

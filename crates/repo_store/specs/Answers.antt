@@ -1,4 +1,4 @@
--- What the packet that answers an Interest is, among those that are stored.
+-- Which of the stored packets answers an Interest.
 use Rattle.std.specs.Prelude.{◌≡◌, ◌≢◌, ℕ, true, false, List, Option, Some, None}
 use Rattle.std.specs.declared.cmp.Ordering.TheVariants.{Less}
 use Rattle.ndn_interest.specs.Interest.{Interest}
@@ -21,8 +21,8 @@ NoneSatisfies i packets =
     (t : Part) (octets : List ℕ) → value_of part_cmp packets t ≡ Some octets
     → satisfies i.name i.can_be_prefix octets ≡ false
 
--- The part whose packet answers the Interest, where any packet may. Where the packet must be fresh,
--- none does.
+-- `Some` is the least part whose packet satisfies the Interest, which allows packets that aren't fresh. `None` is the
+-- answer where no packet satisfies the Interest, or where the packet must be fresh.
 abbrev pub AnswersWith : Interest → List (Part × List ℕ) → Option Part → Type 0
 AnswersWith i packets None = i.must_be_fresh ≡ false → NoneSatisfies i packets
 AnswersWith i packets (Some part) = (i.must_be_fresh ≡ false) × IsLeast i packets part

@@ -12,11 +12,11 @@ fingerprint_of digest = from_be_bytes w64 (take 8 digest)
 abbrev pub Slots : Type 0
 Slots = List (Option (List ℕ))
 
--- What is in the slot of this number. A slot that there isn't has nothing.
+-- What is in the slot number `slot`. There is nothing in a slot after the last.
 abbrev pub at : Slots → ℕ → Option (List ℕ)
 at slots slot = slice_index_or slots slot None
 
--- The octets in a slot.
+-- The octets of the packet in a slot; none where the slot is empty.
 abbrev pub octets_at : Slots → ℕ → List ℕ
 octets_at slots slot = unwrap_or (at slots slot) []
 
@@ -24,17 +24,17 @@ octets_at slots slot = unwrap_or (at slots slot) []
 abbrev pub fingerprint_at : Slots → ℕ → ℕ
 fingerprint_at slots slot = fingerprint_of (sha256 (octets_at slots slot))
 
--- A part that is held, and the slot of its packet.
-abbrev pub Held : Type 0
-Held = Part × ℕ
+-- An entry: a part that is held, and the slot of its packet.
+abbrev pub Stored : Type 0
+Stored = Part × ℕ
 
 -- The parts that are held, each with its packet.
-abbrev pub entries_of : Slots → List Held → List (Part × List ℕ)
-entries_of slots held = map (λ (h : Held). (h.0, octets_at slots h.1)) held
+abbrev pub entries_of : Slots → List Stored → List (Part × List ℕ)
+entries_of slots held = map (λ (h : Stored). (h.0, octets_at slots h.1)) held
 
--- What is kept: the slots, the parts in order with the slots of their packets, and for how many parts more there is
--- room.
+-- The value of a packet table: its slots, the parts in order with the slots of their packets, and for how many more
+-- parts there is capacity.
 pub record PacketTableState : Type 0 where
   pub slots : Slots
-  pub held : List Held
+  pub held : List Stored
   pub spare : ℕ

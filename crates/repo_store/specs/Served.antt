@@ -28,7 +28,7 @@ asks_for name can_be_prefix digest d =
     || (is_same_name name (full_name d.name digest)
     || (can_be_prefix && is_prefix name (full_name d.name digest)))
 
--- What octets were read as, where it is a Data packet that the Interest asks for.
+-- Whether octets were read as a Data packet, and an Interest of this name asks for it.
 abbrev pub asks_for_read : List Component → Bool → List ℕ → Result Data PacketFault → Bool
 asks_for_read name can_be_prefix digest (Ok d) = asks_for name can_be_prefix digest d
 asks_for_read name can_be_prefix digest (Err fault) = false
@@ -38,19 +38,19 @@ unfoldable pub satisfies : List Component → Bool → List ℕ → Bool
 satisfies name can_be_prefix octets =
     asks_for_read name can_be_prefix (sha256 octets) (data_of octets)
 
--- The packet of the least part that satisfies the Interest. A packet that must be fresh is never
--- there, since no packet says how long it is so.
+-- The first of `packets` that satisfies the Interest, with its part. A packet that must be fresh is never there, since
+-- no packet says how long it is fresh.
 unfoldable pub first_served : Interest → List (Part × List ℕ) → Option (Part × List ℕ)
 first_served i packets =
     if i.must_be_fresh then None else find (λ e. satisfies i.name i.can_be_prefix e.1) packets
 
--- What octets that come as an Interest are answered with, with its part; or the Interest's first
--- fault.
+-- The part and the packet that answer the Interest with the octets `interest`, if there are any; or the Interest's
+-- first fault.
 unfoldable pub served_entry : List ℕ → List (Part × List ℕ)
     → Result (Option (Part × List ℕ)) PacketFault
 served_entry interest packets = interest_of interest >>= λ i. Ok (first_served i packets)
 
--- The same, as a packet alone and as a part alone.
+-- The packet that answers the Interest, if there is one, or the fault of the Interest.
 abbrev pub served : List ℕ → List (Part × List ℕ) → Result (Option (List ℕ)) PacketFault
 served interest packets = served_entry interest packets >>= λ e. Ok (option_map (λ s. s.1) e)
 

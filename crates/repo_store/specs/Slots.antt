@@ -21,47 +21,48 @@ use Rattle.repo_store.specs.declared.packet_table.Sought.TheVariants.{Octets, Fu
 use Rattle.repo_store.specs.declared.packet_table.PacketTable.TheInside.{Inside}
 use Rattle.repo_store.specs.StoreList.{is_in_any}
 use Rattle.repo_object.specs.Packets.{IsPacket, packet_name}
-use Rattle.repo_store.specs.PacketTable.{Slots, at, octets_at, fingerprint_at, Held, PacketTableState}
+use Rattle.repo_store.specs.PacketTable.{Slots, at, octets_at, fingerprint_at, Stored, PacketTableState}
 
 -- ---- slots
 
--- A part is held, and its packet is in this slot.
-pub record IsHeldIn (held : List Held) (slot : ℕ) : Type 0 where
+-- Some part is held whose packet is in the slot `slot`.
+pub record IsHeldIn (held : List Stored) (slot : ℕ) : Type 0 where
   pub by : Part
   pub there : In (by, slot) held
 
--- What is held has a Data packet each; each slot is some part's, and no two have the same octets.
-pub record AreSlots (slots : Slots) (held : List Held) : Type 0 where
-  pub kept : (h : Held) → In h held → IsSome (at slots h.1)
+-- Each held part has a packet in its slot. What is in a slot is a Data packet, and belongs to a held part. No two slots
+-- have the same octets.
+pub record AreSlots (slots : Slots) (held : List Stored) : Type 0 where
+  pub kept : (h : Stored) → In h held → IsSome (at slots h.1)
   pub named : (slot : ℕ) (octets : List ℕ) → at slots slot ≡ Some octets → IsPacket octets
   pub used : (slot : ℕ) → IsSome (at slots slot) → IsHeldIn held slot
   pub different : (a b : ℕ) → IsSome (at slots a) → at slots a ≡ at slots b → a ≡ b
 
--- Octets are kept in this slot; they were there, or no slot had them.
+-- The slot `slot` has `octets` in `new`. If a slot had them in `old`, it was this one. The other slots are unchanged.
 pub record KeepsOne (octets : List ℕ) (old new : Slots) (slot : ℕ) : Type 0 where
   pub there : at new slot ≡ Some octets
   pub others : (s : ℕ) → IsSome (at old s) → at new s ≡ at old s
   pub only : (s : ℕ) → IsSome (at new s) → (s ≡ slot) ⊎ IsSome (at old s)
   pub once : (s : ℕ) → at old s ≡ Some octets → s ≡ slot
 
--- ---- fronts
+-- ---- fingerprints
 
--- By fingerprint, then by slot, then by part.
+-- The order of entries with fingerprints: by fingerprint, then by slot, then by part.
 abbrev pub fingerprinted_cmp : Fingerprinted → Fingerprinted → Ordering
 fingerprinted_cmp a b =
     ordering_then (nat_cmp a.fingerprint b.fingerprint) (ordering_then (nat_cmp a.slot b.slot) (part_cmp a.part b.part))
 
--- What is held, as it is found by the fingerprint of its packet's digest.
-abbrev pub fingerprinted : Slots → Held → Fingerprinted
+-- An entry, with the fingerprint of its packet's digest.
+abbrev pub fingerprinted : Slots → Stored → Fingerprinted
 fingerprinted slots h = record { fingerprint = fingerprint_at slots h.1; slot = h.1; part = h.0 }
 
--- These are what is held.
-abbrev pub AreFingerprints : Slots → List Held → List Fingerprinted → Type 0
+-- `fingerprints` has the entries of `held`, each with the fingerprint of its packet's digest, and no others.
+abbrev pub AreFingerprints : Slots → List Stored → List Fingerprinted → Type 0
 AreFingerprints slots held fingerprints = HaveSame fingerprints (map (fingerprinted slots) held)
 
--- Of what is found by this fingerprint in the slots from one on, it is in the least slot, and there of the least part;
--- or there is none.
-abbrev pub IsNextOf : List Fingerprinted → ℕ → ℕ → Option Held → Type 0
+-- The entry with this fingerprint, in slot `from` or a later one, that has the lowest slot and then the lowest part;
+-- `None` if there is none.
+abbrev pub IsNextOf : List Fingerprinted → ℕ → ℕ → Option Stored → Type 0
 IsNextOf fingerprints fingerprint from None = (k : Fingerprinted) → In k fingerprints → k.fingerprint ≡ fingerprint
     → from ≤ k.slot → ⊥
 IsNextOf fingerprints fingerprint from (Some next) =
@@ -69,7 +70,7 @@ IsNextOf fingerprints fingerprint from (Some next) =
     × ((k : Fingerprinted) → In k fingerprints → k.fingerprint ≡ fingerprint → from ≤ k.slot
     → (next.1 < k.slot) ⊎ ((next.1 ≡ k.slot) × (is_le (part_cmp next.0 k.part) ≡ true)))
 
--- Whether a part is found by this fingerprint in this slot.
+-- Whether `fingerprints` has an entry with this fingerprint and this slot.
 abbrev pub IsUsed : List Fingerprinted → ℕ → ℕ → Bool → Type 0
 IsUsed fingerprints fingerprint slot true = (t : Part)
     × In (record { fingerprint = fingerprint; slot = slot; part = t }) fingerprints
@@ -78,40 +79,41 @@ IsUsed fingerprints fingerprint slot false = (t : Part)
 
 -- ---- what is sought
 
--- Whether a packet's full name has these octets: its name, and a component with its digest.
+-- Whether there is a packet, and `asked` is its full name, as octets: its name, and a component with its digest.
 abbrev pub is_full_name : List ℕ → Option (List ℕ) → Bool
 is_full_name asked None = false
 is_full_name asked (Some octets) = pointwise nat_eq asked (packet_name octets ++ element 1 (sha256 octets))
 
--- Whether what is held has these octets as its packet's full name.
-abbrev pub has_full_name : Slots → List ℕ → Held → Bool
+-- Whether `asked` is the full name of an entry's packet, as octets.
+abbrev pub has_full_name : Slots → List ℕ → Stored → Bool
 has_full_name slots asked h = is_full_name asked (at slots h.1)
 
--- Whether octets are those that are sought, or have the digest and the name that are.
+-- Whether `octets` are the octets that are sought, or have the digest and the name that are sought.
 abbrev pub is_sought : Sought → List ℕ → Bool
 is_sought (Octets sought) octets = pointwise nat_eq octets sought.now
 is_sought (FullName digest name) octets =
     pointwise nat_eq (sha256 octets) digest.now && pointwise nat_eq (packet_name octets) name.now
 
--- The same of what is held, where the fingerprint of its packet's digest is this.
-abbrev pub is_sought_at : Slots → ℕ → Sought → Held → Bool
+-- Whether an entry's packet is sought, and the fingerprint of its digest is `fingerprint`.
+abbrev pub is_sought_at : Slots → ℕ → Sought → Stored → Bool
 is_sought_at slots fingerprint sought h = fingerprint_at slots h.1 == fingerprint
     && is_sought sought (octets_at slots h.1)
 
 -- ---- what is put
 
--- What is held is in order of the parts, and has a Data packet each.
+-- The held parts are in order, and each has a Data packet in its slot.
 pub record HeldIsSound (k : PacketTableState) : Type 0 where
   pub rises : Rises part_cmp (keys k.held)
-  pub kept : (h : Held) → In h k.held → IsSome (at k.slots h.1)
-  pub packets : (h : Held) → In h k.held → IsPacket (octets_at k.slots h.1)
+  pub kept : (h : Stored) → In h k.held → IsSome (at k.slots h.1)
+  pub packets : (h : Stored) → In h k.held → IsPacket (octets_at k.slots h.1)
 
--- Octets that were found are in their slot already; others are put into an empty one.
-abbrev pub IsKeptIn : Option Held → List ℕ → Slab (List ℕ) → Slab (List ℕ) → ℕ → Type 0
-IsKeptIn None octets old new slot = (get old slot ≡ None) × Updates old new slot (Some octets)
-IsKeptIn (Some h) octets old new slot = (slot ≡ h.1) × (new ≡ old)
+-- If an entry was found, `slot` is its slot, and the slab is unchanged; otherwise `octets` are put into an empty slot.
+abbrev pub IsStoredIn : Option Stored → List ℕ → Slab (List ℕ) → Slab (List ℕ) → ℕ → Type 0
+IsStoredIn None octets old new slot = (get old slot ≡ None) × Updates old new slot (Some octets)
+IsStoredIn (Some h) octets old new slot = (slot ≡ h.1) × (new ≡ old)
 
--- The packet is put under its part, of which there was none, into a slot of its own or that of the same octets.
+-- The packet is put under its part, which had none before, in a new slot or in the one that has the same octets
+-- already.
 pub record IsPut (part : Part) (octets : List ℕ) (slot : ℕ) (old new : PacketTableState) : Type 0 where
   pub fresh : contains part_cmp (keys old.held) part ≡ false
   pub held : new.held ≡ with_value part_cmp part slot old.held
@@ -121,26 +123,27 @@ pub record IsPut (part : Part) (octets : List ℕ) (slot : ℕ) (old new : Packe
 
 -- ---- what is dropped
 
--- What is held of other publications than this, or than these.
-abbrev pub held_outside : Pair → List Held → List Held
-held_outside pair held = filter (λ (h : Held). not (is_in pair h.0)) held
+-- The entries of other publications than `pair`.
+abbrev pub held_outside : Pair → List Stored → List Stored
+held_outside pair held = filter (λ (h : Stored). not (is_in pair h.0)) held
 
--- What is held of other publications than these.
-abbrev pub held_outside_all : List Pair → List Held → List Held
-held_outside_all pairs held = filter (λ (h : Held). not (is_in_any pairs h.0)) held
+-- The entries of publications that `pairs` doesn't list.
+abbrev pub held_outside_all : List Pair → List Stored → List Stored
+held_outside_all pairs held = filter (λ (h : Stored). not (is_in_any pairs h.0)) held
 
--- The parts of a publication that are held have numbers below 4.
-abbrev pub HasFew : Pair → List Held → Type 0
-HasFew pair held = (h : Held) → In h held → is_in pair h.0 ≡ true → h.0.part < 4
+-- The held parts of the publication `pair` have numbers below 4, which is `FEW` in the code: so few are searched one by
+-- one when they are dropped. The bound matters for speed alone.
+abbrev pub HasFew : Pair → List Stored → Type 0
+HasFew pair held = (h : Stored) → In h held → is_in pair h.0 ≡ true → h.0.part < 4
 
--- What stays held has the packet that it had.
-abbrev pub AreSame : PacketTableState → PacketTableState → Type 0
-AreSame old new = (h : Held) → In h new.held → at new.slots h.1 ≡ at old.slots h.1
+-- Each entry that `new` holds has the same packet as its slot had in `old`.
+abbrev pub PacketsStay : PacketTableState → PacketTableState → Type 0
+PacketsStay old new = (h : Stored) → In h new.held → at new.slots h.1 ≡ at old.slots h.1
 
--- ---- what is kept
+-- ---- the invariant
 
--- What is kept true of the fields.
-pub record IsKept (k : Inside) : Type 0 where
+-- The invariant of the packet table's fields.
+pub record TableIsSound (k : Inside) : Type 0 where
   pub in_order : Rises part_cmp (keys k.parts.entries)
   pub fingerprints_in_order : Rises fingerprinted_cmp (keys k.fingerprints.entries)
   pub slots : AreSlots k.packets.slots k.parts.entries

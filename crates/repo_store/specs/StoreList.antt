@@ -25,7 +25,7 @@ abbrev pub different_octets : List (Part × List ℕ) → List (List ℕ)
 different_octets [] = []
 different_octets (e ∷ es) = insert_key (slice_cmp nat_cmp) e.1 (different_octets es)
 
--- The packets of a publication's parts, and the others.
+-- The packets of the parts of the publication `pair`.
 abbrev pub packets_in : Pair → List (Part × List ℕ) → List (Part × List ℕ)
 packets_in pair packets = filter (λ e. is_in pair e.0) packets
 
@@ -37,7 +37,7 @@ packets_outside pair packets = filter (λ e. not (is_in pair e.0)) packets
 abbrev pub is_in_any : List Pair → Part → Bool
 is_in_any pairs t = list_any (λ pair. is_in pair t) pairs
 
--- The packets of the parts of these publications, and those of no listed one.
+-- The packets of the parts of the publications `pairs`.
 abbrev pub packets_in_any : List Pair → List (Part × List ℕ) → List (Part × List ℕ)
 packets_in_any pairs packets = filter (λ e. is_in_any pairs e.0) packets
 

@@ -2,21 +2,21 @@ ghost use Rattle.std.specs.Prelude.{◌≡◌, ◌≤◌, true, length};
 ghost use Rattle.repo_store.specs.Indexes.{IsFirstOf};
 ghost use Rattle.repo_store.specs.Blocks.{piece, IsBlock, AreBlocks, IsNear, AreNear, StaysBlock, StayBlocks};
 
-use crate::packet_table::{Held, lesser};
+use crate::packet_table::{Stored, lesser};
 
-// How many stand in a block.
+// How many entries a block has.
 pub(crate) const BLOCK: usize = 64;
 
-// What stands between two places, and which of that is of the least part.
+// A block: the entries from place `start` on, before place `end`, and the one of them that has the least part.
 #[derive(Clone, Copy)]
 pub(crate) struct Block {
     start: usize,
     end: usize,
-    least: Option<Held>,
+    least: Option<Stored>,
 }
 
 impl Block {
-    fn of(held: &[Held], start: usize, end: usize) -> Block
+    fn of(held: &[Stored], start: usize, end: usize) -> Block
         requires rises { start ≤ end }
         requires within { end ≤ length held.now }
         ensures { IsBlock held.now result }
@@ -28,8 +28,8 @@ impl Block {
         }
     }
 
-    // The same block where the one in this place was removed from what is held.
-    fn without(self, place: usize, held: &[Held]) -> Block
+    // The block, adjusted to the removal of the entry at `place`. `held` has the entries that remain.
+    fn without(self, place: usize, held: &[Stored]) -> Block
         requires { IsNear held.now self }
         ensures { StaysBlock place held.now self result }
     {
@@ -47,8 +47,8 @@ impl Block {
     }
 }
 
-// What stands between two places.
-pub(crate) fn piece(held: &[Held], start: usize, end: usize) -> &[Held]
+// The entries of `held` from place `start` on, before place `end`.
+pub(crate) fn piece(held: &[Stored], start: usize, end: usize) -> &[Stored]
     requires rises { start ≤ end }
     requires within { end ≤ length held.now }
     ensures { result.now ≡ piece start end held.now }
@@ -58,8 +58,8 @@ pub(crate) fn piece(held: &[Held], start: usize, end: usize) -> &[Held]
     piece
 }
 
-// The blocks of what is held, as many as there is capacity for. What comes after the last is in none.
-pub(crate) fn make_blocks(blocks: &mut Vec<Block>, held: &[Held])
+// Makes the blocks of `held`, as many as there is capacity for. Entries after the last block are in none.
+pub(crate) fn make_blocks(blocks: &mut Vec<Block>, held: &[Stored])
     ensures { AreBlocks held.now blocks.new.items }
 {
     blocks.clear();
@@ -70,32 +70,35 @@ pub(crate) fn make_blocks(blocks: &mut Vec<Block>, held: &[Held])
     }
 }
 
-// The blocks where the one in this place was removed from what is held.
-pub(crate) fn shift_blocks(blocks: &mut Vec<Block>, place: usize, held: &[Held])
+// Adjusts the blocks to the removal of the entry at `place`. `held` has the entries that remain.
+pub(crate) fn shift_blocks(blocks: &mut Vec<Block>, place: usize, held: &[Stored])
     requires { AreNear held.now blocks.old.items }
     ensures { StayBlocks place held.now blocks.old.items blocks.new.items }
 {
-    for number in 0..blocks.len() {
-        blocks[number] = blocks[number].without(place, held);
+    for block in blocks.iter_mut() {
+        *block = block.without(place, held);
     }
 }
 
-// Of what stands between two places, what is of the least part. A block between them is one step; what is in none is
-// read.
+// The entry with the least part among those from place `start` on, before place `end`. A block between these places
+// takes one step; entries that are in no such block are read. As blocks rise, those before and after are found by two
+// binary searches.
 pub(crate) fn least_between(
-    held: &[Held],
+    held: &[Stored],
     blocks: &[Block],
     start: usize,
     end: usize,
-) -> Option<Held>
+) -> Option<Stored>
     requires rises { start ≤ end }
     requires within { end ≤ length held.now }
     requires blocks { AreBlocks held.now blocks.now }
     ensures { IsFirstOf (piece start end held.now) (λ h. true) result }
 {
+    let (_, rest) = blocks.split_at(blocks.partition_point(|block| block.start < start));
+    let (near, _) = rest.split_at(rest.partition_point(|block| block.end <= end));
     let mut least = None;
     let mut from = start;
-    for block in blocks {
+    for block in near {
         if from <= block.start && block.end <= end {
             let before = least_of(piece(held, from, block.start));
             least = lesser(lesser(least, before), block.least);
@@ -105,8 +108,8 @@ pub(crate) fn least_between(
     lesser(least, least_of(piece(held, from, end)))
 }
 
-// Of all of these, what is of the least part.
-fn least_of(held: &[Held]) -> Option<Held>
+// The entry of `held` that has the least part.
+fn least_of(held: &[Stored]) -> Option<Stored>
     ensures { IsFirstOf held.now (λ h. true) result }
 {
     let mut least = *held.first()?;

@@ -6,25 +6,25 @@ ghost use Rattle.repo_store.specs.Blocks.{piece, AreBlocks};
 ghost use Rattle.repo_store.specs.NameLayers.{is_left, left_of, IsMerged};
 
 use crate::blocks::{Block, least_between, piece};
-use crate::packet_table::{FIRST, Held, PacketTable};
+use crate::packet_table::{FIRST, PacketTable, Stored};
 use repo_plan::Part;
 use std::cmp::Ordering;
 
-// What is held, in order of the names of the packets, and then of the parts.
+// The entries of parts that are held, in order of the names of the packets, and then of the parts.
 #[derive(Clone, Copy)]
 pub(crate) struct Index<'i> {
-    pub(crate) held: &'i [Held],
+    pub(crate) held: &'i [Stored],
     pub(crate) kept: &'i PacketTable,
 }
 
 impl Index<'_> {
-    fn name(&self, held: &Held) -> &[u8]
+    fn name(&self, held: &Stored) -> &[u8]
         ensures { result.now ≡ name_at self.now.kept.now.slots held.now }
     {
         self.kept.name(held.1)
     }
 
-    fn cmp(&self, held: &Held, name: &[u8], part: Part) -> Ordering
+    fn cmp(&self, held: &Stored, name: &[u8], part: Part) -> Ordering
         ensures { result ≡ key_cmp (key_in self.now.kept.now.slots held.now) (name.now, part) }
     {
         match self.name(held).cmp(name) {
@@ -33,12 +33,12 @@ impl Index<'_> {
         }
     }
 
-    // By what the index is in order of.
-    pub(crate) fn cmp_held(&self, held: &Held, other: &Held) -> Ordering {
+    // Compares two entries as the index is ordered: by the names of their packets, then by their parts.
+    pub(crate) fn cmp_held(&self, held: &Stored, other: &Stored) -> Ordering {
         self.cmp(held, self.name(other), other.0)
     }
 
-    // How much of what is held comes before this name and part.
+    // How many entries come before this name and part.
     fn place(&self, name: &[u8], part: Part) -> usize
         requires { IndexIsInOrder self.now }
         ensures { IsPlace self.now.kept.now.slots self.now.held.now (name.now, part) result }
@@ -47,8 +47,8 @@ impl Index<'_> {
             .partition_point(|held| self.cmp(held, name, part).is_lt())
     }
 
-    // How much of what is held comes before this.
-    fn place_of(&self, held: &Held) -> usize
+    // How many entries come before the entry `held`.
+    fn place_of(&self, held: &Stored) -> usize
         requires { IndexIsInOrder self.now }
         ensures { IsPlace self.now.kept.now.slots self.now.held.now
             (key_in self.now.kept.now.slots held.now) result }
@@ -56,9 +56,9 @@ impl Index<'_> {
         self.place(self.name(held), held.0)
     }
 
-    // The same, where it is mostly little. What stands at 0, 1, 3, 7 and so on is compared until something does
-    // not come before this; then what stands in front of that is searched.
-    pub(crate) fn place_near_start(&self, held: &Held) -> usize
+    // How many entries come before the entry `held`, where they are mostly few. The entries at places 0, 1, 3, 7 and so
+    // on are compared until one doesn't come before `held`; then the entries in front of that one are searched.
+    pub(crate) fn place_near_start(&self, held: &Stored) -> usize
         requires { IndexIsInOrder self.now }
         ensures { IsPlace self.now.kept.now.slots self.now.held.now
             (key_in self.now.kept.now.slots held.now) result }
@@ -79,9 +79,15 @@ impl Index<'_> {
         self.place(name, held.0)
     }
 
-    // What has this name, or begins with it where that is asked for, of the least part. Of one name the first is of
-    // the least part; of several names the parts are compared, block by block, and no name is read.
-    pub(crate) fn first(&self, blocks: &[Block], asked: &[u8], can_be_prefix: bool) -> Option<Held>
+    // The entry with the least part of those whose packet's name is `asked` or, with `can_be_prefix`, begins with it.
+    // Of the entries of one name the first has the least part; of several names the parts are compared, block by block,
+    // and no name is read.
+    pub(crate) fn first(
+        &self,
+        blocks: &[Block],
+        asked: &[u8],
+        can_be_prefix: bool,
+    ) -> Option<Stored>
         requires in_order { IndexIsInOrder self.now }
         requires blocks { AreBlocks self.now.held.now blocks.now }
         ensures { IsFirstOf self.now.held.now (name_matches self.now.kept.now.slots asked.now can_be_prefix) result }
@@ -94,7 +100,8 @@ impl Index<'_> {
         }
     }
 
-    // Between which places that stands which has this name, or begins with it where that is asked for.
+    // The places between which the entries stand whose packet's name is `asked` or, with `can_be_prefix`, begins with
+    // it.
     fn asked(&self, asked: &[u8], can_be_prefix: bool) -> (usize, usize)
         requires { IndexIsInOrder self.now }
         ensures rises { result.0 ≤ result.1 }
@@ -109,12 +116,12 @@ impl Index<'_> {
     }
 }
 
-// Whether its packet's name is this, or begins with it where that is asked for.
+// Whether the name of the entry's packet is `asked` or, with `can_be_prefix`, begins with it.
 pub(crate) fn name_matches(
     kept: &PacketTable,
     asked: &[u8],
     can_be_prefix: bool,
-    held: &Held,
+    held: &Stored,
 ) -> bool
     ensures { result ≡ name_matches kept.now.slots asked.now can_be_prefix held.now }
 {
@@ -126,8 +133,8 @@ pub(crate) fn name_matches(
     }
 }
 
-// What is in order of names gains one more, in its place.
-pub(crate) fn insert(index: &mut Vec<Held>, kept: &PacketTable, held: Held)
+// Inserts the entry `held` at its place in `index`, which is in order.
+pub(crate) fn insert(index: &mut Vec<Stored>, kept: &PacketTable, held: Stored)
     requires in_order { AreInOrder kept.now.slots index.old.items }
     requires room { vec_len index.old < vec_capacity index.old }
     ensures in_order { AreInOrder kept.now.slots index.new.items }
@@ -143,8 +150,8 @@ pub(crate) fn insert(index: &mut Vec<Held>, kept: &PacketTable, held: Held)
     index.insert(place, held).unwrap();
 }
 
-// What is in order of names loses what is of this part, which is searched by its name.
-pub(crate) fn take_out(index: &mut Vec<Held>, kept: &PacketTable, held: Held)
+// Removes the entry of the part of `held` from `index`, if there is one. It is searched by the name of its packet.
+pub(crate) fn take_out(index: &mut Vec<Stored>, kept: &PacketTable, held: Stored)
     requires in_order { AreInOrder kept.now.slots index.old.items }
     requires alone { IsAlone held index.old.items }
     ensures outside { index.new.items ≡ outside_part held.0 index.old.items }
@@ -156,8 +163,8 @@ pub(crate) fn take_out(index: &mut Vec<Held>, kept: &PacketTable, held: Held)
     }
 }
 
-// Where something of this part stands in what is in order of names.
-pub(crate) fn find(index: &[Held], kept: &PacketTable, held: Held) -> Option<usize>
+// The place in `index` of the entry of the part of `held`, if there is one.
+pub(crate) fn find(index: &[Stored], kept: &PacketTable, held: Stored) -> Option<usize>
     requires in_order { AreInOrder kept.now.slots index.now }
     requires alone { IsAlone held index.now }
     ensures { IsFoundAt held.0 index.now result }
@@ -172,9 +179,14 @@ pub(crate) fn find(index: &[Held], kept: &PacketTable, held: Held) -> Option<usi
     }
 }
 
-// Two that are in order are merged into one, for which there is room. Names that come one after the other mostly stand
-// close together, so most places are near the start of the rest.
-pub(crate) fn merge(merged: &mut Vec<Held>, settled: &[Held], recent: &[Held], kept: &PacketTable)
+// Merges `settled` and `recent`, which are in order, into `merged`, which has room for both. Recent names that follow
+// each other mostly stand close together, so most places are near the start of the rest of `settled`.
+pub(crate) fn merge(
+    merged: &mut Vec<Stored>,
+    settled: &[Stored],
+    recent: &[Stored],
+    kept: &PacketTable,
+)
     requires empty { merged.old.items ≡ [] }
     requires settled { AreInOrder kept.now.slots settled.now }
     requires recent { AreInOrder kept.now.slots recent.now }
@@ -194,8 +206,8 @@ pub(crate) fn merge(merged: &mut Vec<Held>, settled: &[Held], recent: &[Held], k
     merged.extend_from_slice(rest).unwrap();
 }
 
-// Drops what is held of these publications, whose parts are kept no more.
-pub(crate) fn retain(held: &mut Vec<Held>, kept: &PacketTable, pairs: &[(u32, u16)])
+// Drops the entries of the publications `pairs`, whose parts are held no more.
+pub(crate) fn retain(held: &mut Vec<Stored>, kept: &PacketTable, pairs: &[(u32, u16)])
     ensures left { held.new.items ≡ left_of pairs.now kept.now.held held.old.items }
     ensures len { vec_len held.new ≤ vec_len held.old }
     ensures capacity { vec_capacity held.new ≡ vec_capacity held.old }
@@ -203,7 +215,7 @@ pub(crate) fn retain(held: &mut Vec<Held>, kept: &PacketTable, pairs: &[(u32, u1
     held.retain(|held| is_left(kept, pairs, held.0));
 }
 
-// Whether a part that was kept still is, where those of these publications were dropped.
+// Whether a part that was held is still held after the parts of the publications `pairs` were dropped.
 fn is_left(kept: &PacketTable, pairs: &[(u32, u16)], part: Part) -> bool
     ensures { result ≡ is_left pairs.now kept.now.held part }
 {

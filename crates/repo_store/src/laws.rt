@@ -16,7 +16,7 @@ ghost use Rattle.repo_store.specs.StoreList.{with_packet, packets_outside, diffe
 ghost use Rattle.repo_store.specs.Served.{satisfies, served, served_part};
 ghost use Rattle.repo_store.specs.Answers.{AnswersWith};
 
-/// The test of a packet is that it is Data that an Interest of the name asks for.
+/// A packet that reads as Data passes the test `satisfies` just where an Interest of the name asks for it.
 pub fn satisfying_is_decided()
     ensures { (name : List Component) (can_be_prefix : Bool) (octets : List ℕ) (d : Data)
         → data_of octets ≡ Ok d

@@ -8,21 +8,21 @@ ghost use Rattle.repo_store.specs.NameLayers.{is_stored, is_stored_and_matches, 
 ghost use Rattle.repo_store.specs.NameLayers.{taken_out, left_unless};
 
 use crate::index::{Index, insert, name_matches, retain, take_out};
-use crate::packet_table::{FEW, Held, PacketTable, lesser};
+use crate::packet_table::{FEW, PacketTable, Stored, lesser};
 use crate::settled::Settled;
 use repo_plan::Part;
 use std::alloc::{AllocError, Global};
 
-// The names of what is held. What is put waits, and no name is read, until an asker comes. Of what was put in its
-// place then most is settled, and what came last is recent until it is merged with that. So few others are moved for
-// each that comes, in whatever order they do. What is dropped may go on waiting, and is passed over: so to drop one
-// part takes no walk over all that wait.
+// The index of a store by name. An entry that is put is added to `waiting`, and its name isn't read. `order` inserts
+// the waiting entries into `recent`, and merges `recent` into `settled` when it is long. So few entries are moved for
+// each that is put, in whatever order they are put. A dropped entry may stay in `waiting`, and is passed over: so to
+// drop one part takes no walk over all waiting entries.
 #[derive(Drop)]
 pub(crate) struct Names {
     settled: Settled,
-    recent: Vec<Held>,
-    waiting: Vec<Held>,
-    // So many parts were dropped since those that wait were looked through for such.
+    recent: Vec<Stored>,
+    waiting: Vec<Stored>,
+    // How many parts were dropped since dropped entries were last removed from `waiting`.
     dropped: usize,
 }
 
@@ -45,7 +45,7 @@ impl Names {
         *self.recent.allocator()
     }
 
-    // Reserves capacity for so many more.
+    // Reserves capacity for `n` more entries.
     pub(crate) fn reserve(&mut self, n: usize) -> Result<(), AllocError>
         ensures same { HasSame self.old self.new }
         ensures kept { (m : ℕ) → HasRoom self.old m → HasRoom self.new m }
@@ -62,8 +62,8 @@ impl Names {
         self.settled.reserve(recent)
     }
 
-    // What is held waits from now on. There is capacity for one more.
-    pub(crate) fn put(&mut self, held: Held)
+    // Adds an entry to `waiting`. There is capacity for one more.
+    pub(crate) fn put(&mut self, held: Stored)
         requires { HasRoom self.old 1 }
         ensures settled { self.new.settled.items ≡ self.old.settled.items }
         ensures recent { self.new.recent.items ≡ self.old.recent.items }
@@ -73,14 +73,14 @@ impl Names {
         self.waiting.push(held).unwrap();
     }
 
-    // What is held of this name, or of one that begins with it where that is asked for, of the least part. All that
-    // waits is read.
+    // The held entry with the least part of those whose packet's name is `asked` or, with `can_be_prefix`, begins with
+    // it. All waiting entries are read.
     pub(crate) fn first(
         &self,
         kept: &PacketTable,
         asked: &[u8],
         can_be_prefix: bool,
-    ) -> Option<Held>
+    ) -> Option<Stored>
         requires { IsIndexOf kept.now.slots kept.now.held self.now }
         ensures { IsFirstOf kept.now.held (name_matches kept.now.slots asked.now can_be_prefix) result }
     {
@@ -93,7 +93,7 @@ impl Names {
         lesser(self.settled.first(kept, asked, can_be_prefix), ordered)
     }
 
-    // What waits and is held is put in its place. There is capacity for that.
+    // Puts the waiting entries that are still held in order. There is capacity for that.
     pub(crate) fn order(&mut self, kept: &PacketTable)
         requires index { IsIndexOf kept.now.slots kept.now.held self.old }
         requires room { HasRoom self.old 0 }
@@ -104,7 +104,7 @@ impl Names {
         self.place_waiting(kept);
     }
 
-    // What is held no more waits no more.
+    // Removes from `waiting` the entries that are held no more.
     fn forget_dropped(&mut self, kept: &PacketTable)
         ensures settled { self.new.settled.items ≡ self.old.settled.items }
         ensures recent { self.new.recent.items ≡ self.old.recent.items }
@@ -115,7 +115,7 @@ impl Names {
         self.dropped = 0;
     }
 
-    // What waits is put in its place. There is capacity for that.
+    // Puts all waiting entries in order. There is capacity for that.
     fn place_waiting(&mut self, kept: &PacketTable)
         requires in_order { LayersAreInOrder kept.now.slots self.old }
         requires room { HasRoom self.old 0 }
@@ -134,19 +134,20 @@ impl Names {
         }
     }
 
-    // Whether more is recent than the root of what is settled. What is put in its place moves the one, and what is
-    // merged the other.
+    // Whether there are more recent entries than the square root of the number of settled ones. An insertion moves
+    // recent entries, and a merge moves settled ones.
     fn has_many_recent(&self) -> bool {
         self.recent.len().saturating_mul(self.recent.len()) > self.settled.len()
     }
 
-    // Whether any name is in its place. Where nobody asked by name, none is.
+    // Whether any entry is settled or recent. Before the first call of `order` none is.
     fn has_ordered(&self) -> bool {
         self.settled.len() > 0 || self.recent.len() > 0
     }
 
-    // Takes what is held of these publications out of what is in order, where it is one publication of few parts: each
-    // is searched by its name, since its packet is kept still. Else nothing is done.
+    // Takes the entries of the publications `pairs` out of `settled` and `recent`, if that is one publication of few
+    // parts: each is searched by its name, since its packet is still kept. Otherwise nothing is done. The answer is
+    // whether they were taken out.
     pub(crate) fn take_out(&mut self, kept: &PacketTable, pairs: &[(u32, u16)]) -> bool
         requires { AreAmong kept.now.slots kept.now.held self.old }
         ensures settled { self.new.settled.items ≡ taken_out result pairs.now self.old.settled.items }
@@ -163,7 +164,7 @@ impl Names {
         }
     }
 
-    // The same of one publication of few parts.
+    // Takes the entries of a publication of few parts out of `settled` and `recent`.
     fn take_pair(&mut self, kept: &PacketTable, pair: (u32, u16))
         requires among { AreAmong kept.now.slots kept.now.held self.old }
         requires few { HasFew pair kept.now.held }
@@ -182,7 +183,7 @@ impl Names {
         }
     }
 
-    // The same of one part.
+    // Takes the entry of a part out of `settled` and `recent`.
     fn take_part(&mut self, kept: &PacketTable, part: Part)
         requires { AreAmong kept.now.slots kept.now.held self.old }
         ensures settled { self.new.settled.items ≡ outside_part part self.old.settled.items }
@@ -196,8 +197,9 @@ impl Names {
         }
     }
 
-    // Drops what is held of these publications, so many parts, which are kept no more, and were perhaps taken out. They
-    // go on waiting until as many were dropped as half of what waits.
+    // Drops the entries of the publications `pairs`, of which `parts` parts are held no more. `taken` says that
+    // `take_out` took them out of `settled` and `recent` already. Waiting entries stay until more parts were dropped
+    // than half of their number.
     pub(crate) fn drop_all(
         &mut self,
         kept: &PacketTable,
@@ -217,7 +219,7 @@ impl Names {
         }
     }
 
-    // Drops it from what is in order, unless it was taken out.
+    // Drops the entries of the publications `pairs` from `settled` and `recent`, unless they were taken out before.
     fn drop_ordered(&mut self, kept: &PacketTable, pairs: &[(u32, u16)], taken: bool)
         ensures settled { self.new.settled.items ≡ left_unless taken pairs.now kept.now.held self.old.settled.items }
         ensures recent { self.new.recent.items ≡ left_unless taken pairs.now kept.now.held self.old.recent.items }
@@ -231,8 +233,14 @@ impl Names {
     }
 }
 
-// What is kept of this name, or of one that begins with it where that is asked for, of the least part. All is read.
-fn first_of(held: &[Held], kept: &PacketTable, asked: &[u8], can_be_prefix: bool) -> Option<Held>
+// The entry of `held` with the least part of those that `kept` has and whose packet's name is `asked` or, with
+// `can_be_prefix`, begins with it. All entries are read.
+fn first_of(
+    held: &[Stored],
+    kept: &PacketTable,
+    asked: &[u8],
+    can_be_prefix: bool,
+) -> Option<Stored>
     ensures { IsFirstOf held.now (is_stored_and_matches kept.now asked.now can_be_prefix) result }
 {
     let mut least = None;
@@ -244,15 +252,20 @@ fn first_of(held: &[Held], kept: &PacketTable, asked: &[u8], can_be_prefix: bool
     least
 }
 
-// Whether it is kept and asked for.
-fn is_stored_and_matches(kept: &PacketTable, asked: &[u8], can_be_prefix: bool, held: &Held) -> bool
+// Whether `kept` has the entry, and the name of its packet is `asked` or, with `can_be_prefix`, begins with it.
+fn is_stored_and_matches(
+    kept: &PacketTable,
+    asked: &[u8],
+    can_be_prefix: bool,
+    held: &Stored,
+) -> bool
     ensures { result ≡ is_stored_and_matches kept.now asked.now can_be_prefix held.now }
 {
     name_matches(kept, asked, can_be_prefix, held) && is_stored(kept, held)
 }
 
-// Whether it is kept: its part is, in its slot.
-fn is_stored(kept: &PacketTable, held: &Held) -> bool
+// Whether `kept` has the entry: its part, in the same slot.
+fn is_stored(kept: &PacketTable, held: &Stored) -> bool
     ensures { result ≡ is_stored kept.now.held held.now }
 {
     match kept.slot_of(held.0) {
@@ -261,8 +274,9 @@ fn is_stored(kept: &PacketTable, held: &Held) -> bool
     }
 }
 
-// What is in order gains all of these, for which there is capacity. Where they come in order too, little is moved.
-fn insert_all(index: &mut Vec<Held>, kept: &PacketTable, held: &[Held])
+// Inserts the entries `held` into `index`, which is in order and has capacity for them. If they are in order too,
+// little is moved.
+fn insert_all(index: &mut Vec<Stored>, kept: &PacketTable, held: &[Stored])
     requires in_order { AreInOrder kept.now.slots index.old.items }
     requires room { vec_len index.old + length held.now ≤ vec_capacity index.old }
     ensures in_order { AreInOrder kept.now.slots index.new.items }

@@ -8,8 +8,8 @@ ghost use Rattle.repo_plan.specs.Parts.{part_cmp};
 ghost use Rattle.repo_store.specs.StoreList.{different_octets};
 ghost use Rattle.sha2.specs.Sha256.{sha256};
 ghost use Rattle.repo_store.specs.PacketTable.{fingerprint_of, at, octets_at, fingerprint_at, entries_of};
-ghost use Rattle.repo_store.specs.Slots.{HeldIsSound, KeepsOne, IsUsed, AreSame, held_outside, held_outside_all};
-ghost use Rattle.repo_store.specs.Slots.{is_sought, is_sought_at, has_full_name, IsNextOf, IsKeptIn, IsPut, HasFew};
+ghost use Rattle.repo_store.specs.Slots.{HeldIsSound, KeepsOne, IsUsed, PacketsStay, held_outside, held_outside_all};
+ghost use Rattle.repo_store.specs.Slots.{is_sought, is_sought_at, has_full_name, IsNextOf, IsStoredIn, IsPut, HasFew};
 ghost use Rattle.repo_store.specs.Indexes.{name_of, lesser, IsFirstOf};
 
 use repo_object::Packet;
@@ -20,11 +20,11 @@ use std::alloc::{AllocError, Global};
 use std::cmp::Ordering;
 use std::marker::Model;
 
-// A part that is held, and the slot of its packet.
-pub(crate) type Held = (Part, usize);
+// An entry: a part that is held, and the slot of its packet.
+pub(crate) type Stored = (Part, usize);
 
-// What is held, as it is found by the fingerprint of its packet's digest. Packets whose digests have one fingerprint
-// stand together, each with its parts, of which the least comes first.
+// An entry, with the fingerprint of its packet's digest. Packets whose digests have one fingerprint stand together,
+// each with its parts, of which the least comes first.
 #[derive(Clone, Copy, Debug, PartialEq, Eq, PartialOrd, Ord)]
 struct Fingerprinted {
     fingerprint: u64,
@@ -39,10 +39,11 @@ enum Sought<'s> {
     FullName(&'s [u8], &'s [u8]),
 }
 
-// A publication has few parts where their numbers are below this.
+// A publication has few parts where their numbers are below this. So few are searched one by one when they are dropped.
+// The bound matters for speed alone.
 pub(crate) const FEW: u16 = 4;
 
-// No part comes before it.
+// The least part: no part comes before it.
 pub(crate) const FIRST: Part = Part {
     publisher: 0,
     seq: 0,
@@ -64,11 +65,11 @@ impl Model for PacketTable {
 
     ghost Value = { PacketTableState };
 
-    ghost use Rattle.repo_store.specs.Slots.{IsKept};
+    ghost use Rattle.repo_store.specs.Slots.{TableIsSound};
 
     ghost view = { λ k. record { slots = k.packets.slots; held = k.parts.entries; spare = k.spare } };
 
-    ghost invariant = { IsKept };
+    ghost invariant = { TableIsSound };
 }
 
 impl Sought<'_> {
@@ -130,7 +131,7 @@ impl PacketTable {
         self.slot_of(part).is_some()
     }
 
-    // Whether few parts of this publication are held, by their numbers.
+    // Whether the held parts of this publication have numbers below `FEW`.
     pub(crate) fn has_few(&self, pair: (u32, u16)) -> bool
         ensures { IsTrue result → HasFew pair self.now.held }
     {
@@ -152,7 +153,7 @@ impl PacketTable {
         self.packets.get(slot)
     }
 
-    // Its octets.
+    // The octets of the packet in a slot; none where the slot is empty.
     pub(crate) fn octets(&self, slot: usize) -> &[u8]
         ensures { result.now ≡ octets_at self.now.slots slot }
     {
@@ -162,7 +163,7 @@ impl PacketTable {
         }
     }
 
-    // Its name.
+    // The name of the packet in a slot; empty where the slot is.
     pub(crate) fn name(&self, slot: usize) -> &[u8]
         ensures { result.now ≡ name_of (at self.now.slots slot) }
     {
@@ -186,9 +187,9 @@ impl PacketTable {
         Ok(())
     }
 
-    // What is held of this full name, of the least part. The octets of a full name end with a component of
-    // 34 octets.
-    pub(crate) fn first_with_full_name(&self, asked: &[u8]) -> Option<Held>
+    // The entry with the least part of those whose packet's full name is `asked`. The octets of a full name end with a
+    // component of 34 octets.
+    pub(crate) fn first_with_full_name(&self, asked: &[u8]) -> Option<Stored>
         ensures found { IsFirstOf self.now.held (has_full_name self.now.slots asked.now) result }
         ensures sound { HeldIsSound self.now }
     {
@@ -198,9 +199,9 @@ impl PacketTable {
         self.first_of_fingerprint(fingerprint_of(digest), &Sought::FullName(digest, name))
     }
 
-    // What is held of this fingerprint and sought, of the least part. The slots of the fingerprint are looked at in
-    // turn: they are more than one only where the fingerprints of different packets are the same.
-    fn first_of_fingerprint(&self, fingerprint: u64, sought: &Sought<'_>) -> Option<Held>
+    // The entry with the least part of those whose packet is sought and has a digest of this fingerprint. The slots of
+    // the fingerprint are looked at in turn: there are several only where different packets have the same fingerprint.
+    fn first_of_fingerprint(&self, fingerprint: u64, sought: &Sought<'_>) -> Option<Stored>
         ensures { IsFirstOf self.now.held (is_sought_at self.now.slots fingerprint sought.now) result }
     {
         let mut least = None;
@@ -253,12 +254,12 @@ impl PacketTable {
         Some(slot)
     }
 
-    // Drops the parts of these publications, and gives their number.
+    // Drops the parts of these publications, and gives the number of parts.
     pub(crate) fn drop_all(&mut self, pairs: &[(u32, u16)]) -> usize
         ensures number { result + length self.new.held ≡ length self.old.held }
         ensures few { result ≤ length pairs.now * 65536 }
         ensures held { self.new.held ≡ held_outside_all pairs.now self.old.held }
-        ensures same { AreSame self.old self.new }
+        ensures same { PacketsStay self.old self.new }
         ensures spare { self.new.spare ≡ self.old.spare }
         ensures sound { HeldIsSound self.old }
     {
@@ -269,11 +270,11 @@ impl PacketTable {
         before - self.parts.len()
     }
 
-    // The same of one publication.
+    // Drops the parts of one publication.
     fn drop_pair(&mut self, pair: (u32, u16))
         ensures held { self.new.held ≡ held_outside pair self.old.held }
         ensures few { length self.old.held ≤ length self.new.held + 65536 }
-        ensures same { AreSame self.old self.new }
+        ensures same { PacketsStay self.old self.new }
         ensures spare { self.new.spare ≡ self.old.spare }
     {
         let first = Part {
@@ -294,7 +295,7 @@ impl PacketTable {
         requires { In (part, slot) self.old.held }
         ensures number { part.part < 65536 }
         ensures held { self.new.held ≡ without_key part_cmp part self.old.held }
-        ensures same { AreSame self.old self.new }
+        ensures same { PacketsStay self.old self.new }
         ensures spare { self.new.spare ≡ self.old.spare }
     {
         let fingerprint = fingerprint_in(self.packets.get(slot).unwrap());
@@ -310,10 +311,10 @@ impl PacketTable {
     }
 }
 
-// The slot of a packet that was found, or else a new one that it is put into.
-fn keep(packets: &mut Slab<Packet>, packet: Packet, found: Option<Held>) -> usize
+// Keeps a packet, and gives its slot: that of the entry that was found, or else a new one.
+fn keep(packets: &mut Slab<Packet>, packet: Packet, found: Option<Stored>) -> usize
     requires { HasRoomFor packets.old 1 }
-    ensures kept { IsKeptIn found packet packets.old packets.new result }
+    ensures kept { IsStoredIn found packet packets.old packets.new result }
     ensures room { (n : ℕ) → HasRoomFor packets.old (n + 1) → HasRoomFor packets.new n }
 {
     match found {
@@ -322,12 +323,12 @@ fn keep(packets: &mut Slab<Packet>, packet: Packet, found: Option<Held>) -> usiz
     }
 }
 
-// The next part of this fingerprint, in the slots from one on.
+// The entry with this fingerprint, in slot `from` or a later one, that has the lowest slot and then the lowest part.
 fn next_of_fingerprint(
     fingerprints: &SortedMap<Fingerprinted, ()>,
     fingerprint: u64,
     from: usize,
-) -> Option<Held>
+) -> Option<Stored>
     ensures { IsNextOf (keys fingerprints.now.entries) fingerprint from result }
 {
     let first = Fingerprinted {
@@ -341,7 +342,7 @@ fn next_of_fingerprint(
     }
 }
 
-// Whether a part is found by this fingerprint in this slot.
+// Whether `fingerprints` has an entry with this fingerprint and this slot.
 fn is_used(fingerprints: &SortedMap<Fingerprinted, ()>, fingerprint: u64, slot: usize) -> bool
     ensures { IsUsed (keys fingerprints.now.entries) fingerprint slot result }
 {
@@ -351,8 +352,8 @@ fn is_used(fingerprints: &SortedMap<Fingerprinted, ()>, fingerprint: u64, slot: 
     }
 }
 
-// The one of the lesser part.
-pub(crate) fn lesser(a: Option<Held>, b: Option<Held>) -> Option<Held>
+// Of two entries the one with the lesser part, and `a` where the parts are the same; the other one where one is `None`.
+pub(crate) fn lesser(a: Option<Stored>, b: Option<Stored>) -> Option<Stored>
     ensures { result ≡ lesser a b }
 {
     match (a, b) {

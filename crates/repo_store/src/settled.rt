@@ -5,18 +5,18 @@ ghost use Rattle.repo_store.specs.NameLayers.{IsMerged, left_of};
 
 use crate::blocks::{BLOCK, Block, make_blocks, shift_blocks};
 use crate::index::{Index, find, merge, retain};
-use crate::packet_table::{Held, PacketTable};
+use crate::packet_table::{PacketTable, Stored};
 use std::alloc::{AllocError, Global};
 use std::marker::Model;
 use std::mem;
 
-// What is settled, in order of names, and which of each block of it is of the least part: so what begins with a prefix
-// is looked through block by block.
+// The settled entries, in order of their packets' names, and for each block of them the entry with the least part: so
+// the entries of a prefix are looked through block by block.
 #[derive(Drop)]
 pub(crate) struct Settled {
-    held: Vec<Held>,
-    // What is settled and what comes to it are merged into this.
-    merged: Vec<Held>,
+    held: Vec<Stored>,
+    // Settled and recent entries are merged into this.
+    merged: Vec<Stored>,
     blocks: Vec<Block>,
 }
 
@@ -50,7 +50,7 @@ impl Settled {
         self.held.len()
     }
 
-    // Reserves capacity for so many more.
+    // Reserves capacity for `n` more entries.
     pub(crate) fn reserve(&mut self, n: usize) -> Result<(), AllocError>
         ensures items { self.new.items ≡ self.old.items }
         ensures kept { self.old.room ≤ self.new.room }
@@ -66,13 +66,14 @@ impl Settled {
         self.blocks.reserve(more)
     }
 
-    // What is settled of this name, or of one that begins with it where that is asked for, of the least part.
+    // The settled entry with the least part of those whose packet's name is `asked` or, with `can_be_prefix`, begins
+    // with it.
     pub(crate) fn first(
         &self,
         kept: &PacketTable,
         asked: &[u8],
         can_be_prefix: bool,
-    ) -> Option<Held>
+    ) -> Option<Stored>
         requires { AreInOrder kept.now.slots self.now.items }
         ensures { IsFirstOf self.now.items (name_matches kept.now.slots asked.now can_be_prefix) result }
     {
@@ -83,8 +84,8 @@ impl Settled {
         index.first(&self.blocks, asked, can_be_prefix)
     }
 
-    // What is recent becomes settled. There is capacity for that.
-    pub(crate) fn settle(&mut self, recent: &[Held], kept: &PacketTable)
+    // Merges the recent entries into the settled ones. There is capacity for that.
+    pub(crate) fn settle(&mut self, recent: &[Stored], kept: &PacketTable)
         requires settled { AreInOrder kept.now.slots self.old.items }
         requires recent { AreInOrder kept.now.slots recent.now }
         requires room { length self.old.items + length recent.now ≤ self.old.room }
@@ -98,8 +99,8 @@ impl Settled {
         make_blocks(&mut self.blocks, &self.held);
     }
 
-    // What is settled loses what is of this part, which is searched by its name.
-    pub(crate) fn take_out(&mut self, kept: &PacketTable, held: Held)
+    // Removes the settled entry of the part of `held`, if there is one. It is searched by the name of its packet.
+    pub(crate) fn take_out(&mut self, kept: &PacketTable, held: Stored)
         requires in_order { AreInOrder kept.now.slots self.old.items }
         requires alone { IsAlone held self.old.items }
         ensures outside { self.new.items ≡ outside_part held.0 self.old.items }
@@ -111,8 +112,8 @@ impl Settled {
         }
     }
 
-    // Where something of this part stands.
-    fn find(&self, kept: &PacketTable, held: Held) -> Option<usize>
+    // The place of the settled entry of the part of `held`, if there is one.
+    fn find(&self, kept: &PacketTable, held: Stored) -> Option<usize>
         requires in_order { AreInOrder kept.now.slots self.now.items }
         requires alone { IsAlone held self.now.items }
         ensures { IsFoundAt held.0 self.now.items result }
@@ -129,7 +130,7 @@ impl Settled {
         shift_blocks(&mut self.blocks, place, &self.held);
     }
 
-    // Drops what is held of these publications, whose parts are kept no more.
+    // Drops the settled entries of the publications `pairs`, whose parts are held no more.
     pub(crate) fn retain(&mut self, kept: &PacketTable, pairs: &[(u32, u16)])
         ensures left { self.new.items ≡ left_of pairs.now kept.now.held self.old.items }
         ensures len { length self.new.items ≤ length self.old.items }

@@ -11,7 +11,7 @@ ghost use Rattle.repo_store.specs.NameLayers.{IsIndexOf};
 ghost use Rattle.repo_store.specs.Served.{served};
 
 use crate::names::Names;
-use crate::packet_table::{Held, PacketTable, lesser};
+use crate::packet_table::{PacketTable, Stored, lesser};
 use ndn_interest::InterestView;
 use ndn_name::{NameView, PacketFault};
 use repo_object::Packet;
@@ -21,15 +21,14 @@ use std::marker::Model;
 
 /// The packets of parts, each part once, with capacity for more. Packets of the same octets are kept once.
 ///
-/// A part, and a packet that is asked for by its full name, is found at once. What is put waits for
-/// `order_names` before it is found by its name, or by a prefix of that, without a walk over all
-/// that waits.
+/// A part, and a packet that is asked for by its full name, is found at once. Packets that were put since the last call
+/// of `order_names` are found by their names, or by prefixes of them, by a walk over all those packets.
 pub struct Store {
     kept: PacketTable,
     names: Names,
 }
 
-// A store is dropped by one call, which is proved once, and not field by field wherever one is left.
+// A store is dropped by one call, which is proved once, and not field by field wherever one goes out of scope.
 impl Drop for Store {
     fn drop(self) {
         let Store { kept: _, names: _ } = self;
@@ -96,7 +95,7 @@ impl Store {
         self.kept.packet(slot)
     }
 
-    /// Puts a packet that reads as Data under its part. What is spare stays so.
+    /// Puts a packet that reads as Data under its part. The reserved capacity is unchanged.
     ///
     /// The answer is `false` where there is a packet of the part already, which then stays.
     pub fn put(&mut self, part: Part, octets: &[u8]) -> Result<bool, AllocError>
@@ -148,7 +147,10 @@ impl Store {
         self.put_shared(part, Packet::alone(octets))
     }
 
-    /// The same of a packet that others may hold too: no octets are copied.
+    /// Puts a packet, which others may hold too, under its part, where capacity was reserved. No octets are copied.
+    ///
+    /// The answer is `false` where there is a packet of the part already, which then stays. The room counts as used all
+    /// the same.
     pub fn put_shared(&mut self, part: Part, packet: Packet) -> bool
         requires spare { 0 < self.old.spare }
         ensures fresh { result ≡ not (contains part_cmp (keys self.old.packets) part) }
@@ -192,9 +194,9 @@ impl Store {
         }
     }
 
-    /// Puts what waits in its place by its name, for an asker that may come by name. It allocates nothing.
+    /// Puts the packets that were put since the last call in order of their names. It allocates nothing.
     ///
-    /// `serve` answers the same before and after, and after it without a walk over what waited.
+    /// `serve` answers the same before and after. After this call it doesn't walk over those packets.
     pub fn order_names(&mut self)
         ensures { self.new ≡ self.old }
     {
@@ -211,8 +213,9 @@ impl Store {
         self.drop_all(&[(publisher, seq)]) as u32
     }
 
-    /// The same for many publications, which takes one pass over what is in order of its name; none where it is one
-    /// publication of few parts. A publication may stand twice. Each has at most 65,536 parts.
+    /// Drops the packets of the parts of the publications `pairs`, and gives the number of packets. It takes one pass
+    /// over the packets that are in order of their names; none where `pairs` is one publication of few parts. A
+    /// publication may stand twice. Each has at most 65,536 parts. It allocates nothing.
     pub fn drop_all(&mut self, pairs: &[(u32, u16)]) -> usize
         ensures number { result ≡ length (packets_in_any pairs.now self.old.packets) }
         ensures few { result ≤ length pairs.now * 65536 }
@@ -227,13 +230,13 @@ impl Store {
     }
 }
 
-// What is held of the least part whose packet satisfies an Interest of this name.
+// The held entry with the least part of those whose packet satisfies an Interest of this name.
 fn first_for(
     kept: &PacketTable,
     names: &Names,
     name: &NameView<'_>,
     can_be_prefix: bool,
-) -> Option<Held>
+) -> Option<Stored>
     requires { IsIndexOf kept.now.slots kept.now.held names.now }
     ensures found { IsFirstOf kept.now.held (satisfies_held kept.now.slots name.now can_be_prefix) result }
     ensures sound { HeldIsSound kept.now }

@@ -5,7 +5,7 @@ use Rattle.repo_store.proofs.blocks.least_between.Given as goal
 
 abbrev pub invariant-loop-block : goal.invariant-loop-block
 invariant-loop-block l = record {
-  low : l.start ≤ l.from;
+  low : l.fn.start ≤ l.from;
   high : l.from ≤ l.end;
-  least : IsFirstOf (piece l.start l.from l.held) (λ h. true) l.least;
+  least : IsFirstOf (piece l.fn.start l.from l.held) (λ h. true) l.least;
 }

@@ -13,7 +13,7 @@ use Rattle.sorted_lists.proofs.Members.{in_at}
 use Rattle.repo_plan.specs.declared.part.Part.{Part}
 use Rattle.repo_plan.specs.Parts.{part_cmp}
 use Rattle.repo_plan.proofs.Orders.{exact_parts}
-use Rattle.repo_store.specs.PacketTable.{Held}
+use Rattle.repo_store.specs.PacketTable.{Stored}
 use Rattle.repo_store.specs.Indexes.{first_part}
 use Rattle.repo_store.proofs.IndexLemmas.{PartLe}
 use Rattle.repo_store.proofs.blocks.least_of.Goals as goal
@@ -35,14 +35,14 @@ second_le a b h = go (part_cmp a b) refl h where
   go Greater e h = ap is_le (greater_back exact_parts.total a b e)
 
 -- what comes before the least so far, and before one more, comes before all of them
-least_too : (held : List Held) (i : ℕ) (d least now : Held) → i < length held → PartLe now.0 least.0
-    → PartLe now.0 (get_or held i d).0 → ((h : Held) → In h (take i held) → PartLe least.0 h.0)
-    → (h : Held) → In h (take (i + 1) held) → PartLe now.0 h.0
+least_too : (held : List Stored) (i : ℕ) (d least now : Stored) → i < length held → PartLe now.0 least.0
+    → PartLe now.0 (get_or held i d).0 → ((h : Stored) → In h (take i held) → PartLe least.0 h.0)
+    → (h : Stored) → In h (take (i + 1) held) → PartLe now.0 h.0
 least_too held i d least now l le own so_far h j =
     elim (in_append (take i held) (get_or held i d ∷ []) h (subst (In h) (take_more held i d l) j)) [
       | inl k ↦ le_trans exact_parts now.0 least.0 h.0 le (so_far h k)
       | inr k ↦ elim (let k' : (h ≡ get_or held i d) ⊎ ⊥ = k in k') [
-        | inl e ↦ subst (λ (o : Held). PartLe now.0 o.0) (sym e) own
+        | inl e ↦ subst (λ (o : Stored). PartLe now.0 o.0) (sym e) own
         | inr none ↦ absurd none
       ]
     ]
@@ -51,11 +51,11 @@ pub loop-next-preserved : goal.loop-next-preserved
 loop-next-preserved c =
     let held = c.args.held.now in
     let i = c.loop-next.next-index in
-    let none : Held = (first_part, 0) in
+    let none : Stored = (first_part, 0) in
     let old = c.loop-next.least in
     let next = get_or held i none in
     let l = c.loop-next-test.true in
-    let Now = λ (least : Held). In least held × ((h : Held) → In h (take (i + 1) held) → PartLe least.0 h.0) in
+    let Now = λ (least : Stored). In least held × ((h : Stored) → In h (take (i + 1) held) → PartLe least.0 h.0) in
     let less = sym (c.is_lt.ensures ∙ ap is_lt c.cmp.ensures) in
     elim c.if-is_lt.branch [
       | then-is_lt w ↦

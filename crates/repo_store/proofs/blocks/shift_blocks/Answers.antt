@@ -1,39 +1,46 @@
-use Rattle.std.proofs.Common.{◌<◌, length, sym, subst, arith}
+use Rattle.std.proofs.Common.{inl, inr, ◌<◌, drop, length, None, ap, sym, subst, arith}
+use Rattle.std.proofs.Math.ListN.{drop_of_length-le}
 use Rattle.std.proofs.lemmas.List.{take_all}
 use Rattle.sorted_lists.specs.Members.{In}
+use Rattle.sorted_lists.proofs.Sets.{in_append}
+use Rattle.sorted_lists.proofs.Members.{in_take}
 use Rattle.repo_store.specs.declared.blocks.Block.{Block}
-use Rattle.repo_store.specs.Blocks.{IsNear, StaysBlock}
 use Rattle.repo_store.proofs.BlockLemmas.{shifting_none, shifting_near, shifting_more}
 use Rattle.repo_store.proofs.blocks.shift_blocks.Goals as goal
 
-pub loop-number-init : goal.loop-number-init
-loop-number-init c = shifting_none c.args.place c.args.held.now c.args.blocks.now.items
+abbrev none : Block
+none = record { start = 0; end = 0; least = None }
+
+pub loop-block-init : goal.loop-block-init
+loop-block-init c =
+    rw c.deref_mut-block-items.ensures.value (shifting_none c.args.place c.args.held.now c.args.blocks.now.items)
 
 pub without-requires : goal.without-requires
 without-requires c =
-    let its = c.index.result.now in
-    let now = c.loop-number.blocks.items in
-    let within : c.loop-number.number < length now =
-    omega (arith, c.loop-number-test.true, c.len-number-end.ensures, c.loop-number.invariant.len) in
-    subst (IsNear c.args.held.now) (sym c.index.ensures)
-    (shifting_near c.args.place c.args.held.now c.args.blocks.now.items now c.loop-number.number its
-    c.loop-number.invariant within c.requires)
+    let len = c.loop-block.invariant.len in
+    let within : c.loop-block.block-index < length c.loop-block.block-items =
+    omega (arith, c.loop-block-test.true, len, ap length c.deref_mut-block-items.ensures.value) in
+    shifting_near c.args.place c.args.held.now c.args.blocks.now.items c.loop-block.block-items c.loop-block.block-index
+    none c.loop-block.invariant within c.requires
 
-pub loop-number-preserved : goal.loop-number-preserved
-loop-number-preserved c =
-    let its = c.index.result.now in
-    let now = c.loop-number.blocks.items in
-    let within : c.loop-number.number < length now =
-    omega (arith, c.loop-number-test.true, c.len-number-end.ensures, c.loop-number.invariant.len) in
-    shifting_more c.args.place c.args.held.now c.args.blocks.now.items now c.loop-number.number its
-    c.loop-number.invariant within c.without.result
-    (subst (λ (b : Block). StaysBlock c.args.place c.args.held.now b c.without.result) c.index.ensures
-    c.without.ensures)
+pub loop-block-preserved : goal.loop-block-preserved
+loop-block-preserved c =
+    let len = c.loop-block.invariant.len in
+    let within : c.loop-block.block-index < length c.loop-block.block-items =
+    omega (arith, c.loop-block-test.true, len, ap length c.deref_mut-block-items.ensures.value) in
+    shifting_more c.args.place c.args.held.now c.args.blocks.now.items c.loop-block.block-items c.loop-block.block-index
+    none c.loop-block.invariant within c.without.result c.without.ensures
 
 pub returns : goal.returns
 returns c held within is are b i =
-    let now = c.loop-number.blocks.items in
-    let number = c.loop-number.number in
-    c.loop-number.invariant.moved held within is are b
-    (subst (In b) (sym (take_all number now
-    (omega (arith, c.loop-number-test.false, c.len-number-end.ensures, c.loop-number.invariant.len)))) i)
+    let old = c.args.blocks.now.items in
+    let now = c.loop-block.block-items in
+    let len = c.loop-block.invariant.len in
+    let all = take_all c.loop-block.block-index now
+    (omega (arith, c.loop-block-test.false, len, ap length c.deref_mut-block-items.ensures.value)) in
+    let none_left = drop_of_length-le old {i = length now} (omega (arith, len)) in
+    c.loop-block.invariant.moved held within is are b (subst (In b) (sym all)
+    (elim (in_append now (drop (length now) old) b (in_take c.args.blocks.now.len _ b i)) [
+      | inl there ↦ there
+      | inr after ↦ absurd (subst (In b) none_left after)
+    ]))

@@ -2,7 +2,7 @@ use Rattle.std.proofs.Common.{◌≡◌, List, subst, sym}
 use Rattle.std.specs.List.{insert}
 use Rattle.sorted_lists.proofs.Members.{same_insert}
 use Rattle.sorted_lists.proofs.Climbs.{climbs_inserted}
-use Rattle.repo_store.specs.PacketTable.{Held}
+use Rattle.repo_store.specs.PacketTable.{Stored}
 use Rattle.repo_store.specs.Indexes.{IsPlace, GainsOne, key_in, AreInOrder}
 use Rattle.repo_store.proofs.IndexLemmas.{exact_keys}
 use Rattle.repo_store.proofs.index.insert.Goals as goal
@@ -15,7 +15,7 @@ returns-clause-in_order c =
     let items : c.insert.new.self.items ≡ insert held place c.args.held =
     rw c.unwrap.ensures at c.insert.ensures.items in
     let at =
-    subst (λ (xs : List Held). IsPlace slots xs (key_in slots c.args.held) place) c.as_slice.ensures.value
+    subst (λ (xs : List Stored). IsPlace slots xs (key_in slots c.args.held) place) c.as_slice.ensures.value
     c.place_of-place.ensures in
     subst (AreInOrder slots) (sym items)
     (climbs_inserted exact_keys (key_in slots) held c.args.held place c.requires.in_order at)

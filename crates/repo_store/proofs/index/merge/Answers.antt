@@ -1,6 +1,6 @@
 use Rattle.std.proofs.Common.{◌≡◌, ◌+◌, List, [], ◌∷◌, ◌++◌, get_or, drop, length, vec_len, sym, ap, subst, ◌∙◌, arith}
 use Rattle.sorted_lists.proofs.Climbs.{Merging, merging_none, merging_rest, merging_more, merging_all}
-use Rattle.repo_store.specs.PacketTable.{Held}
+use Rattle.repo_store.specs.PacketTable.{Stored}
 use Rattle.repo_store.specs.Indexes.{first_part, key_in}
 use Rattle.repo_store.specs.NameLayers.{IsMerged}
 use Rattle.repo_store.proofs.IndexLemmas.{exact_keys}
@@ -34,7 +34,7 @@ loop-held-preserved c =
     let extended_len : vec_len c.extend_from_slice.new.self
     ≡ vec_len c.loop-held.merged + length c.split_at.result.0.now =
     rw c.unwrap.ensures at c.extend_from_slice.ensures.len in
-    let none : Held = (first_part, 0) in
+    let none : Stored = (first_part, 0) in
     let held = get_or recent i none in
     let pushed : c.push.new.self.items ≡ c.extend_from_slice.new.self.items ++ held ∷ [] =
     rw c.unwrap-in-loop-held.ensures at c.push.ensures.items in
@@ -42,16 +42,16 @@ loop-held-preserved c =
     rw c.unwrap-in-loop-held.ensures at c.push.ensures.len in
     let items =
     pushed
-    ∙ ap (λ (xs : List Held). xs ++ held ∷ [])
-    (extended ∙ ap (λ (xs : List Held). merged ++ xs) c.split_at.ensures.front) in
+    ∙ ap (λ (xs : List Stored). xs ++ held ∷ [])
+    (extended ∙ ap (λ (xs : List Stored). merged ++ xs) c.split_at.ensures.front) in
     let more =
     merging_more exact_keys key settled recent merged rest i place none c.loop-held-test.true c.requires.recent
     c.place_near_start.ensures c.loop-held.invariant.merging in
     record {
       merging =
-          subst (λ (r : List Held). Merging exact_keys key settled recent c.push.new.self.items r (i + 1))
+          subst (λ (r : List Stored). Merging exact_keys key settled recent c.push.new.self.items r (i + 1))
           (sym c.split_at.ensures.back)
-          (subst (λ (m : List Held). Merging exact_keys key settled recent m (drop place rest) (i + 1)) (sym items)
+          (subst (λ (m : List Stored). Merging exact_keys key settled recent m (drop place rest) (i + 1)) (sym items)
           more);
       len =
           omega (

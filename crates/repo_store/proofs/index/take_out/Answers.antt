@@ -1,7 +1,7 @@
 use Rattle.std.proofs.Common.{◌≡◌, true, List, drop, sym, subst, ◌∙◌, arith}
 use Rattle.std.specs.Prelude.{slice_get}
 use Rattle.sorted_lists.specs.Members.{In}
-use Rattle.repo_store.specs.PacketTable.{Held}
+use Rattle.repo_store.specs.PacketTable.{Stored}
 use Rattle.repo_store.specs.Indexes.{IsAlone, is_one_of}
 use Rattle.repo_store.proofs.TakenLemmas.{Taking, taking_more, none_outside}
 use Rattle.repo_store.proofs.index.take_out.Goals as goal
@@ -15,7 +15,7 @@ loop-place-preserved c =
     let slots = c.args.kept.now.slots in
     let now = c.loop-place.index.items in
     let own =
-    subst (λ (xs : List Held). is_one_of c.args.held.0 (slice_get (drop c.in-Some.place xs) 0) ≡ true)
+    subst (λ (xs : List Stored). is_one_of c.args.held.0 (slice_get (drop c.in-Some.place xs) 0) ≡ true)
     c.deref.ensures.value c.in-Some.ensures.1 in
     record {
       taking =

@@ -1,5 +1,5 @@
 use Rattle.std.proofs.Common.{◌+◌, Option, take, sym, subst, ◌∙◌}
-use Rattle.repo_store.specs.PacketTable.{Held}
+use Rattle.repo_store.specs.PacketTable.{Stored}
 use Rattle.sorted_lists.proofs.LeastOnes.{first_more, first_past, first_all}
 use Rattle.repo_plan.proofs.Orders.{exact_parts}
 use Rattle.repo_store.specs.Indexes.{first_part, held_part, IsFirstOf}
@@ -12,8 +12,8 @@ loop-next-preserved c =
     let held = c.args.held.now in
     let test = is_stored_and_matches c.args.kept.now c.args.asked.now c.args.can_be_prefix in
     let i = c.loop-next.next-index in
-    let none : Held = (first_part, 0) in
-    let Next = λ (least : Option Held). IsFirstOf (take (i + 1) held) test least in
+    let none : Stored = (first_part, 0) in
+    let Next = λ (least : Option Stored). IsFirstOf (take (i + 1) held) test least in
     elim c.if-is_stored_and_matches.branch [
       | then-is_stored_and_matches w ↦
           subst Next (sym (w.least-is ∙ w.lesser-least.ensures))

@@ -1,7 +1,7 @@
 use Rattle.std.proofs.Common.{◌++◌, [], sym, arith}
 use Rattle.std.proofs.lemmas.List.{append-nil}
 use Rattle.sorted_lists.proofs.Members.{same_is, same_taken, same_whole}
-use Rattle.repo_store.specs.PacketTable.{Held}
+use Rattle.repo_store.specs.PacketTable.{Stored}
 use Rattle.repo_store.specs.Indexes.{first_part}
 use Rattle.repo_store.proofs.names.insert_all.Goals as goal
 
@@ -17,7 +17,7 @@ loop-next-init c =
 
 pub loop-next-preserved : goal.loop-next-preserved
 loop-next-preserved c =
-    let none : Held = (first_part, 0) in
+    let none : Stored = (first_part, 0) in
     record {
       in_order = c.insert.ensures.in_order;
       same =

@@ -2,7 +2,7 @@ use Rattle.std.proofs.Common.{◌≡◌, List, Some, subst, sym, ap, ◌∙◌}
 use Rattle.std.specs.Ordering.{is_lt}
 use Rattle.std.proofs.lemmas.Option.{slice_get-get_or}
 use Rattle.sorted_lists.proofs.Climbs.{climbs_parts, place_in_prefix}
-use Rattle.repo_store.specs.PacketTable.{Held}
+use Rattle.repo_store.specs.PacketTable.{Stored}
 use Rattle.repo_store.specs.Indexes.{Key, key_in, AreInOrder, IsPlace}
 use Rattle.repo_store.proofs.IndexLemmas.{exact_keys}
 use Rattle.repo_store.proofs.index.Index.place_near_start.Goals as goal
@@ -21,11 +21,11 @@ returns-then-not-is_lt c =
     let place = c.place.result in
     let next = c.in-Some.next.now in
     let found = c.in-Some.ensures.lookup in
-    let there = slice_get-get_or held end next found.3.0 ∙ ap (λ (h : Held). Some h) (sym found.1) in
+    let there = slice_get-get_or held end next found.3.0 ∙ ap (λ (h : Stored). Some h) (sym found.1) in
     let not_less = sym (c.is_lt.ensures ∙ ap is_lt c.cmp.ensures) ∙ c.if-not-is_lt.true in
     let asked : Key = (c.name-name.result.now, c.args.held.now.0) in
     let same : asked ≡ key_in slots c.args.held.now = λ i. (c.name-name.ensures i, c.args.held.now.0) in
     let at =
-    subst (λ (xs : List Held). IsPlace slots xs asked place) c.split_at.ensures.front c.place.ensures in
+    subst (λ (xs : List Stored). IsPlace slots xs asked place) c.split_at.ensures.front c.place.ensures in
     subst (λ (a : Key). IsPlace slots held a place) same
     (place_in_prefix exact_keys (key_in slots) held asked end place next c.requires there not_less at)

@@ -1,7 +1,7 @@
 use Rattle.std.proofs.Common.{List, ◌++◌, refl, subst, arith}
 use Rattle.sorted_lists.specs.Members.{HaveSame}
 use Rattle.sorted_lists.proofs.Members.{same_back, same_permutation, same_then}
-use Rattle.repo_store.specs.PacketTable.{Held}
+use Rattle.repo_store.specs.PacketTable.{Stored}
 use Rattle.repo_store.specs.NameLayers.{IsMerged}
 use Rattle.repo_store.proofs.NameLayerLemmas.{settled_same, placed_same}
 use Rattle.repo_store.proofs.names.Names.place_waiting.Goals as goal
@@ -13,7 +13,8 @@ returns-else-has_many_recent-clause-same c =
     let more = c.insert_all.new.index.items in
     let moved = same_back (same_permutation l.waiting.items sorted c.sort_unstable_by.ensures.permutation) in
     let added : HaveSame more (l.recent.items ++ sorted) =
-    subst (λ (xs : List Held). HaveSame more (l.recent.items ++ xs)) c.deref.ensures.value c.insert_all.ensures.same in
+    subst (λ (xs : List Stored). HaveSame more (l.recent.items ++ xs)) c.deref.ensures.value
+    c.insert_all.ensures.same in
     placed_same l.settled.items l.recent.items l.waiting.items sorted more c.clear.new.self.items moved added
     c.clear.ensures.items
 
@@ -24,9 +25,10 @@ returns-then-has_many_recent-clause-same c =
     let more = c.insert_all.new.index.items in
     let moved = same_back (same_permutation l.waiting.items sorted c.sort_unstable_by.ensures.permutation) in
     let added : HaveSame more (l.recent.items ++ sorted) =
-    subst (λ (xs : List Held). HaveSame more (l.recent.items ++ xs)) c.deref.ensures.value c.insert_all.ensures.same in
+    subst (λ (xs : List Stored). HaveSame more (l.recent.items ++ xs)) c.deref.ensures.value
+    c.insert_all.ensures.same in
     let merged =
-    subst (λ (xs : List Held). IsMerged c.args.kept.now.slots l.settled.items xs c.settle.new.self.items)
+    subst (λ (xs : List Stored). IsMerged c.args.kept.now.slots l.settled.items xs c.settle.new.self.items)
     c.deref-then-has_many_recent.ensures.value c.settle.ensures.merged in
     same_then
     (settled_same c.args.kept.now.slots l.settled.items more c.clear.new.self.items c.settle.new.self.items

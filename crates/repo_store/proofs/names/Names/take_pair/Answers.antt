@@ -1,7 +1,7 @@
 use Rattle.std.proofs.Common.{◌∙◌, not}
 use Rattle.repo_plan.specs.declared.part.Part.{Part}
 use Rattle.repo_plan.specs.Parts.{part_of}
-use Rattle.repo_store.specs.PacketTable.{Held}
+use Rattle.repo_store.specs.PacketTable.{Stored}
 use Rattle.repo_store.specs.Indexes.{is_of}
 use Rattle.repo_store.proofs.TakenLemmas.{taking_pair_none, taking_pair_more, taking_pair_all, fewer_among}
 use Rattle.repo_store.proofs.names.Names.take_pair.Goals as goal
@@ -25,7 +25,7 @@ loop-number-preserved c =
     let took = c.take_part.ensures in
     record {
       among =
-          fewer_among c.args.kept.now.slots c.args.kept.now.held now next (λ (h : Held). not (is_of part h))
+          fewer_among c.args.kept.now.slots c.args.kept.now.held now next (λ (h : Stored). not (is_of part h))
           took.settled took.recent so_far.among;
       settled =
           taking_pair_more c.args.pair c.args.self.now.settled.items now.settled.items next.settled.items number

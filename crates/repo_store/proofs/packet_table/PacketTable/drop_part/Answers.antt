@@ -2,7 +2,7 @@ use Rattle.std.proofs.Common.{◌≡◌, ℕ, List, [], Option, subst, sym, ap, 
 use Rattle.std.specs.Prelude.{IsSome, option_copied, unwrap_or}
 use Rattle.sha2.specs.Sha256.{sha256}
 use Rattle.sorted_lists.proofs.Sets.{In}
-use Rattle.repo_store.specs.PacketTable.{fingerprint_of, at, fingerprint_at, Held, PacketTableState}
+use Rattle.repo_store.specs.PacketTable.{fingerprint_of, at, fingerprint_at, Stored, PacketTableState}
 use Rattle.repo_store.proofs.SlotLemmas.{used_gone, unused_gone, room_kept}
 use Rattle.repo_store.proofs.packet_table.PacketTable.drop_part.Goals as goal
 
@@ -17,7 +17,7 @@ unwrap-requires c =
 pub invariant_of-self : goal.invariant_of-self
 invariant_of-self c =
     let k = c.self.inside in
-    let h : Held = (c.args.part, c.args.slot) in
+    let h : Stored = (c.args.part, c.args.slot) in
     let there : In h k.parts.entries = subst (λ (s : PacketTableState). In h s.held) (sym c.self.view_is) c.requires in
     let fingerprint : c.fingerprint_in-fingerprint.result ≡ fingerprint_at k.packets.slots c.args.slot =
     c.fingerprint_in-fingerprint.ensures
@@ -43,7 +43,7 @@ invariant_of-self c =
 pub invariant_of-self-else-not-is_used : goal.invariant_of-self-else-not-is_used
 invariant_of-self-else-not-is_used c =
     let k = c.self.inside in
-    let h : Held = (c.args.part, c.args.slot) in
+    let h : Stored = (c.args.part, c.args.slot) in
     let there : In h k.parts.entries = subst (λ (s : PacketTableState). In h s.held) (sym c.self.view_is) c.requires in
     let fingerprint : c.fingerprint_in-fingerprint.result ≡ fingerprint_at k.packets.slots c.args.slot =
     c.fingerprint_in-fingerprint.ensures
@@ -66,7 +66,7 @@ invariant_of-self-else-not-is_used c =
 pub returns-then-not-is_used-clause-same : goal.returns-then-not-is_used-clause-same
 returns-then-not-is_used-clause-same c =
     let k = c.self.inside in
-    let h : Held = (c.args.part, c.args.slot) in
+    let h : Stored = (c.args.part, c.args.slot) in
     let there : In h k.parts.entries = subst (λ (s : PacketTableState). In h s.held) (sym c.self.view_is) c.requires in
     let fingerprint : c.fingerprint_in-fingerprint.result ≡ fingerprint_at k.packets.slots c.args.slot =
     c.fingerprint_in-fingerprint.ensures

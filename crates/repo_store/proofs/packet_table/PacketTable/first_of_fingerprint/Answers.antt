@@ -1,7 +1,7 @@
 use Rattle.std.proofs.Common.{◌+◌, ◌≤◌, Option, length, sym, subst, ◌∙◌, arith}
 use Rattle.std.specs.Prelude.{IsSome}
 use Rattle.sorted_lists.specs.SortedList.{keys}
-use Rattle.repo_store.specs.PacketTable.{at, Held, PacketTableState}
+use Rattle.repo_store.specs.PacketTable.{at, Stored, PacketTableState}
 use Rattle.repo_store.specs.Slots.{AreSlots, AreFingerprints}
 use Rattle.repo_store.proofs.FingerprintLemmas.{test, Searched, searched_none, searched_past, searched_all}
 use Rattle.repo_store.proofs.FingerprintLemmas.{searched_this}
@@ -47,7 +47,7 @@ loop-from-preserved c =
     let fs = keys c.self.inside.fingerprints.entries in
     let fingerprints =
     subst (λ (s : PacketTableState). AreFingerprints s.slots s.held fs) c.self.view_is c.self.invariant.fingerprints in
-    let Next = λ (least : Option Held). Searched k (test k fingerprint sought) (next.1 + 1) least in
+    let Next = λ (least : Option Stored). Searched k (test k fingerprint sought) (next.1 + 1) least in
     elim c.if-is_sought.branch [
       | then-is_sought w ↦
           subst Next (sym (w.least-is ∙ w.lesser-least.ensures))

@@ -8,7 +8,7 @@ use Rattle.repo_plan.proofs.Orders.{exact_parts}
 use Rattle.repo_store.specs.declared.packet_table.Fingerprinted.{Fingerprinted}
 use Rattle.repo_store.specs.declared.packet_table.Sought.{Sought}
 use Rattle.repo_store.specs.declared.packet_table.Sought.TheVariants.{Octets}
-use Rattle.repo_store.specs.PacketTable.{Held, PacketTableState}
+use Rattle.repo_store.specs.PacketTable.{Stored, PacketTableState}
 use Rattle.repo_store.specs.Slots.{AreSlots, AreFingerprints, KeepsOne, HeldIsSound, fingerprinted_cmp, is_sought_at}
 use Rattle.repo_store.specs.Indexes.{IsFirstOf}
 use Rattle.sorted_lists.proofs.Lookups.{none_where, same_with}
@@ -21,7 +21,7 @@ invariant_of-self-2 c =
     let k = c.self.inside in
     let octets = c.args.packet in
     let slot = c.keep-slot.result in
-    let h : Held = (c.args.part, slot) in
+    let h : Stored = (c.args.part, slot) in
     let sought : Sought = Octets c.octets.result in
     let first =
     subst (λ (s : PacketTableState). IsFirstOf s.held (is_sought_at s.slots c.fingerprint_in-fingerprint.result sought)
@@ -48,7 +48,7 @@ invariant_of-self-2 c =
     } in
     record {
       in_order =
-          subst (λ (es : List Held). Rises part_cmp (keys es)) (sym c.insert.ensures.entries)
+          subst (λ (es : List Stored). Rises part_cmp (keys es)) (sym c.insert.ensures.entries)
           (rises_with_value exact_parts c.args.part slot k.parts.entries c.self.invariant.in_order);
       fingerprints_in_order =
           subst (λ (es : List (Fingerprinted × Unit {0})). Rises fingerprinted_cmp (keys es))
@@ -58,7 +58,7 @@ invariant_of-self-2 c =
           subst (AreSlots new) (sym c.insert.ensures.entries)
           (slots_more k.packets.slots new octets k.parts.entries more h are keeps gains c.octets.ensures.packet);
       fingerprints =
-          subst (λ (es : List Held). AreFingerprints new es (keys c.insert-2.new.self.entries))
+          subst (λ (es : List Stored). AreFingerprints new es (keys c.insert-2.new.self.entries))
           (sym c.insert.ensures.entries)
           (subst (λ (fs : List (Fingerprinted × Unit {0})). AreFingerprints new more (keys fs))
           (sym c.insert-2.ensures.entries)
@@ -83,7 +83,7 @@ returns c =
     let k = c.self.inside in
     let octets = c.args.packet in
     let slot = c.keep-slot.result in
-    let h : Held = (c.args.part, slot) in
+    let h : Stored = (c.args.part, slot) in
     let sought : Sought = Octets c.octets.result in
     let first =
     subst (λ (s : PacketTableState). IsFirstOf s.held (is_sought_at s.slots c.fingerprint_in-fingerprint.result sought)

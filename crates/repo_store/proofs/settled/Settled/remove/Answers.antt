@@ -1,5 +1,5 @@
 use Rattle.std.proofs.Common.{◌<◌, List, length, sym, subst, ◌∙◌}
-use Rattle.repo_store.specs.PacketTable.{Held}
+use Rattle.repo_store.specs.PacketTable.{Stored}
 use Rattle.repo_store.specs.Blocks.{AreBlocks, SettledList}
 use Rattle.repo_store.proofs.BlockLemmas.{near_blocks}
 use Rattle.repo_store.proofs.settled.Settled.remove.Goals as goal
@@ -19,5 +19,5 @@ invariant_of-self c =
     (c.deref.ensures.value ∙ c.remove.ensures.items) c.self.invariant.blocks in
     record {
       blocks =
-          subst (λ (xs : List Held). AreBlocks xs c.shift_blocks.new.blocks.items) c.deref.ensures.value blocks;
+          subst (λ (xs : List Stored). AreBlocks xs c.shift_blocks.new.blocks.items) c.deref.ensures.value blocks;
     }

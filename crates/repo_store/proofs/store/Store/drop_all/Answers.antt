@@ -5,7 +5,7 @@ use Rattle.sorted_lists.proofs.Lookups.{filter-revalued}
 use Rattle.repo_plan.specs.declared.part.Part.{Part}
 use Rattle.repo_plan.specs.Parts.{part_cmp}
 use Rattle.repo_store.specs.StoreList.{StoreList, is_in_any, packets_in_any, packets_outside_all}
-use Rattle.repo_store.specs.PacketTable.{at, octets_at, Held, entries_of}
+use Rattle.repo_store.specs.PacketTable.{at, octets_at, Stored, entries_of}
 use Rattle.repo_store.specs.Slots.{held_outside_all}
 use Rattle.repo_store.specs.NameLayers.{HasRoom, IsIndexOf, WaitsStill, left_unless}
 use Rattle.repo_store.proofs.StoreLemmas.{entries_same, lengths_in_any}
@@ -25,13 +25,13 @@ invariant_of-self c =
     let pairs = c.args.pairs.now in
     let taken = c.take_out-taken.result in
     let held = c.drop_all-number.ensures.held in
-    let same : (h : Held) → In h (held_outside_all pairs k.held) → at new.slots h.1 ≡ at k.slots h.1 =
+    let same : (h : Stored) → In h (held_outside_all pairs k.held) → at new.slots h.1 ≡ at k.slots h.1 =
     λ h i. c.drop_all-number.ensures.same h (subst (In h) (sym held) i) in
     let waits : WaitsStill new.held names.waiting.items c.drop_all.new.self.waiting.items =
     λ h i. c.drop_all.ensures.waiting h (subst (In h) (sym c.take_out-taken.ensures.waiting) i) in
     record {
       names =
-          subst (λ (hs : List Held). IsIndexOf new.slots hs c.drop_all.new.self) (sym held)
+          subst (λ (hs : List Stored). IsIndexOf new.slots hs c.drop_all.new.self) (sym held)
           (index_left k.slots new.slots k.held names c.self.invariant.names pairs same c.drop_all.new.self
           (c.drop_all.ensures.settled
           ∙ (λ i. left_unless taken pairs (held i) (c.take_out-taken.ensures.settled i))
@@ -39,7 +39,7 @@ invariant_of-self c =
           (c.drop_all.ensures.recent
           ∙ (λ i. left_unless taken pairs (held i) (c.take_out-taken.ensures.recent i))
           ∙ left_either pairs k.held taken names.recent.items c.self.invariant.names.recent)
-          (subst (λ (hs : List Held). WaitsStill hs names.waiting.items c.drop_all.new.self.waiting.items) held
+          (subst (λ (hs : List Stored). WaitsStill hs names.waiting.items c.drop_all.new.self.waiting.items) held
           waits));
       room =
           subst (HasRoom c.drop_all.new.self) (sym c.drop_all-number.ensures.spare)
@@ -58,8 +58,8 @@ returns-clause-number c =
       ap length c.drop_all-number.ensures.held,
       lengths_in_any pairs entries,
       ap length (filter-revalued part_cmp (octets_at k.slots) (λ t. not (is_in_any pairs t)) k.held),
-      length-map {B = Part × List ℕ} (held_outside_all pairs k.held) (λ (h : Held). (h.0, octets_at k.slots h.1)),
-      length-map {B = Part × List ℕ} k.held (λ (h : Held). (h.0, octets_at k.slots h.1)),
+      length-map {B = Part × List ℕ} (held_outside_all pairs k.held) (λ (h : Stored). (h.0, octets_at k.slots h.1)),
+      length-map {B = Part × List ℕ} k.held (λ (h : Stored). (h.0, octets_at k.slots h.1)),
     ) in
     number ∙ ap (λ (s : StoreList). length (packets_in_any pairs s.packets)) c.self.view_is
 

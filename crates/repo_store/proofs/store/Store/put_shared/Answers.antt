@@ -5,7 +5,7 @@ use Rattle.repo_plan.specs.declared.part.Part.{Part}
 use Rattle.repo_plan.specs.Parts.{part_cmp}
 use Rattle.repo_plan.proofs.Orders.{exact_parts}
 use Rattle.repo_store.specs.StoreList.{StoreList, with_packet}
-use Rattle.repo_store.specs.PacketTable.{octets_at, Held, PacketTableState, entries_of}
+use Rattle.repo_store.specs.PacketTable.{octets_at, Stored, PacketTableState, entries_of}
 use Rattle.repo_store.specs.NameLayers.{IsIndexOf}
 use Rattle.sorted_lists.proofs.Sets.{rises_with_value}
 use Rattle.sorted_lists.proofs.Lookups.{none_where, same_with, keys-revalued, with_value-revalued}
@@ -19,13 +19,13 @@ invariant_of-self c =
     let names = c.self.inside.names in
     let new = c.put.new.self in
     let after = c.put-in-Some.new.self in
-    let h : Held = (c.args.part, c.in-Some.slot) in
+    let h : Stored = (c.args.part, c.in-Some.slot) in
     let put = c.in-Some.ensures in
     let gains =
     same_with exact_parts h.0 h.1 k.held put.sound.rises (none_where exact_parts k.held c.args.part put.fresh) in
     record {
       names =
-          subst (λ (xs : List Held). IsIndexOf new.slots xs after) (sym put.held)
+          subst (λ (xs : List Stored). IsIndexOf new.slots xs after) (sym put.held)
           (index_more k.slots new.slots k.held names c.self.invariant.names (with_value part_cmp h.0 h.1 k.held) after h
           (λ o i. put.keeps.others o.1 (put.sound.kept o i))
           (rises_with_value exact_parts h.0 h.1 k.held put.sound.rises) c.put-in-Some.ensures.settled
