@@ -16,7 +16,7 @@ use Rattle.repo_member.specs.Groups.{GroupKeys}
 use Rattle.bench_world.specs.declared.event.Event.{Event}
 use Rattle.bench_world.specs.declared.event.StepFault.{StepFault}
 use Rattle.bench_world.specs.EventValues.{EventValue, event_value, group_event}
-use Rattle.bench_world.specs.Steps.{IsReady, IsStepFaultOf}
+use Rattle.bench_world.specs.Steps.{EventInRange, IsStepFaultOf}
 use Rattle.bench_world.specs.Runs.{event_values, group_events, StandsAsBefore, IsStopped, ListLawFrom}
 use Rattle.bench_world.specs.Worlds.{GroupState, world_of}
 
@@ -39,7 +39,7 @@ taken_split env w (x ∷ xs) ys a = let r = taken_split env (after_event env w x
 
 -- ---- one event
 
-pub named_ready : (n : ℕ) (w : World) (g : GroupKeys) (e : EventValue) → length w.members ≡ n → IsReady n e
+pub named_ready : (n : ℕ) (w : World) (g : GroupKeys) (e : EventValue) → length w.members ≡ n → EventInRange n e
     → NamesThose w (group_event g e)
 named_ready n w g (EventValue.Publish m name size content) many r = omega (arith, many, r.0)
 named_ready n w g (EventValue.Withdraw m s) many r = omega (arith, many, r.0)
@@ -70,7 +70,7 @@ named_ready n w g EventValue.Traffic many r = tt
 
 module _ (env : Environment) (g : GroupKeys) (begun : World) (events : List Event) where
   module _ (i : ℕ) (inside : i < length events) (item : Event) (item_is : item ≡ get_or events i item) (mid new : World)
-      (n : ℕ) (many : length mid.members ≡ n) (ready : IsReady n (event_value item))
+      (n : ℕ) (many : length mid.members ≡ n) (ready : EventInRange n (event_value item))
       (taken : EventsAreTaken env begun (group_events g (event_values (take i events))))
       (world : mid ≡ after_events env begun (group_events g (event_values (take i events)))) where
     one_more : group_events g (event_values (take (i + 1) events))

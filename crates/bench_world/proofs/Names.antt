@@ -44,7 +44,7 @@ use Rattle.bench_world.specs.EventValues.{lost_report, answer_report, dump_repor
 use Rattle.bench_world.specs.EventValues.{hear_report, ask_report}
 use Rattle.bench_world.specs.EventValues.{fed_report, feed_report, block_report}
 use Rattle.bench_world.specs.Readings.{read_as}
-use Rattle.bench_world.specs.Steps.{IsReady, SyncNamesMember, NamesAll}
+use Rattle.bench_world.specs.Steps.{EventInRange, SyncNamesMember, NamesInRange}
 use Rattle.bench_world.proofs.NextParts.{all_from_in}
 use Rattle.bench_world.proofs.RefusedMembers.{refused_in_roster}
 
@@ -52,62 +52,62 @@ module _ (n : ℕ) where
   -- ---- of a member that is there
 
   module _ (m : ℕ) (there : m < n) where
-    of_mode : (mode : Mode) → NamesAll n (mode_report m mode)
+    of_mode : (mode : Mode) → NamesInRange n (mode_report m mode)
     of_mode Steady = there
     of_mode Suppressed = there
 
-    of_delivery : (k : ℕ) (mode : Mode) → NamesAll n (delivered_report k m mode)
+    of_delivery : (k : ℕ) (mode : Mode) → NamesInRange n (delivered_report k m mode)
     of_delivery k Steady = there
     of_delivery k Suppressed = there
 
-    of_fire : (k : ℕ) (x : Fired) → NamesAll n (fired_report m k x)
+    of_fire : (k : ℕ) (x : Fired) → NamesInRange n (fired_report m k x)
     of_fire k fired.Early = there
     of_fire k fired.Quiet = there
     of_fire k fired.Send = there
 
     of_claim : (f : ℕ) (o : Option Part) → ((t : Part) → o ≡ Some t → t.publisher < n)
-        → NamesAll n (claim_report m f o)
+        → NamesInRange n (claim_report m f o)
     of_claim f None publisher = there
     of_claim f (Some t) publisher = (there, publisher t refl)
 
-    of_loss : (f : ℕ) (o : Option Part) → ((t : Part) → o ≡ Some t → t.publisher < n) → NamesAll n (lost_report m f o)
+    of_loss : (f : ℕ) (o : Option Part) → ((t : Part) → o ≡ Some t → t.publisher < n) → NamesInRange n (lost_report m f o)
     of_loss f None publisher = tt
     of_loss f (Some t) publisher = (there, publisher t refl)
 
-    of_answer : (f : ℕ) (b : Bool) → NamesAll n (answer_report m f b)
+    of_answer : (f : ℕ) (b : Bool) → NamesInRange n (answer_report m f b)
     of_answer f true = there
     of_answer f false = there
 
-    of_dump : (o : Option (List ℕ)) → NamesAll n (dump_report m o)
+    of_dump : (o : Option (List ℕ)) → NamesInRange n (dump_report m o)
     of_dump None = there
     of_dump (Some octets) = there
 
-    of_ask : (r : Result (Option (List ℕ)) PacketFault) → NamesAll n (ask_report m r)
+    of_ask : (r : Result (Option (List ℕ)) PacketFault) → NamesInRange n (ask_report m r)
     of_ask (Err fault) = there
     of_ask (Ok None) = there
     of_ask (Ok (Some octets)) = there
 
-    of_fed : (f : ℕ) (r : Result Data PartRefusal) → NamesAll n (fed_report m f r)
+    of_fed : (f : ℕ) (r : Result Data PartRefusal) → NamesInRange n (fed_report m f r)
     of_fed f (Ok d) = there
     of_fed f (Err refusal) = there
 
     of_feed : (g : GroupKeys) (w : World) (f : ℕ) (octets : List ℕ) (o : Option Part)
-        → NamesAll n (feed_report g w m f octets o)
+        → NamesInRange n (feed_report g w m f octets o)
     of_feed g w f octets None = tt
     of_feed g w f octets (Some t) = of_fed f (ring_verdict (published_want g (logs w) t) g.members.ring octets)
 
-    of_block : (seq sync : ℕ) (b : BlockState) → NamesAll n (block_report m seq sync b)
+    of_block : (seq sync : ℕ) (b : BlockState) → NamesInRange n (block_report m seq sync b)
     of_block seq sync Unknown = there
     of_block seq sync Already = there
     of_block seq sync (Waiting p) = there
     of_block seq sync (Whole p) = there
 
-    of_heard : (heard : Result Mode (ℕ × ℕ)) → NamesAll n (heard_as m heard)
+    of_heard : (heard : Result Mode (ℕ × ℕ)) → NamesInRange n (heard_as m heard)
     of_heard (Ok mode) = of_mode mode
     of_heard (Err ahead) = (there, tt)
 
     of_hear : (r : Result (ℕ × List ℕ) SyncRefusal) → IfErr r (SyncNamesMember n) → (heard : HearOutcome (read_as r))
-        → NamesAll n (hear_report m r heard)
+        → NamesInRange n (hear_report m r heard)
     of_hear (Err refusal) named heard = (there, named)
     of_hear (Ok received) named heard = of_heard heard
 
@@ -157,7 +157,7 @@ module _ (n : ℕ) where
         subst (λ (k : ℕ). IfErr (group_verdict g octets) (SyncNamesMember k)) roster
         (refused_in_roster g.members.names g.name g.members.ring octets)
 
-    pub names_all : (e : EventValue) → IsReady n e → NamesAll n (event_report g env w e)
+    pub names_all : (e : EventValue) → EventInRange n e → NamesInRange n (event_report g env w e)
     names_all (EventValue.Publish m name size content) r = r.0
     names_all (EventValue.Withdraw m s) r = r.0
     names_all (EventValue.Deliver k m) r = of_delivery m r k (mode_at (after_deliver env w m (sent_at w k).vector) m)

@@ -31,7 +31,7 @@ use Rattle.repo_holdings.specs.Taking.{Fetched}
 use Rattle.repo_holdings.specs.Wanting.{nothing_listed, want_at, job_at}
 use Rattle.repo_member.specs.MemberState.{MemberState}
 use Rattle.repo_member.specs.InGroup.{AreLogs, published_packet, asked_for, parts_fetched}
-use Rattle.repo_member.specs.Outcomes.{outcome_of, octets_in, IsCheckedFor, WereTried}
+use Rattle.repo_member.specs.Outcomes.{outcome_of, octets_in, IsCheckedFor, WereChecked}
 use Rattle.repo_member.specs.ConsistentHolders.{IsConsistentHolder}
 use Rattle.repo_member.proofs.PublicLaws.{packets_pass_for_holders}
 use Rattle.bench_world.specs.Worlds.{AreConsistentMembers}
@@ -123,7 +123,7 @@ module _ (answer : WantedPart → ℕ → Option (List ℕ)) (g : GroupKeys) (tr
 
   pub were_tried : (jobs : List Job) (parts : List (Option CheckedPart)) (ns : List ℕ)
       → All (CanBeTried (length g.members.ring) tries) jobs → AreFirst answer g.members.ring tries jobs parts ns
-      → WereTried g jobs parts ns
+      → WereChecked g jobs parts ns
   were_tried [] [] [] can f = tt
   were_tried (job ∷ jobs) (part ∷ parts) (n ∷ ns) can f =
       let one = one_tried job part n f.0 in
@@ -137,7 +137,7 @@ module _ (answer : WantedPart → ℕ → Option (List ℕ)) (g : GroupKeys) (tr
   -- So it can where no attempt is counted.
   pub none_counted : (jobs : List Job) (parts : List (Option CheckedPart)) (ns : List ℕ)
       → All (CanBeTried (length g.members.ring) tries) jobs → AreFirst answer g.members.ring tries jobs parts ns
-      → WereTried g jobs parts (replicate (length jobs) 0)
+      → WereChecked g jobs parts (replicate (length jobs) 0)
   none_counted [] [] [] can f = tt
   none_counted (job ∷ jobs) (part ∷ parts) (n ∷ ns) can f =
       let one = one_tried job part n f.0 in

@@ -6,7 +6,7 @@ use Rattle.bench_world.specs.declared.event.Happened.{Happened}
 use Rattle.bench_world.specs.declared.event.EventError.{EventError}
 use Rattle.bench_world.specs.EventValues.{EventValue, report_value, event_report}
 use Rattle.bench_world.specs.Runs.{IsStep}
-use Rattle.bench_world.specs.Steps.{NamesAll}
+use Rattle.bench_world.specs.Steps.{NamesInRange}
 use Rattle.bench_world.specs.CarryingOut.{HasCarriedOut, IsReportOf}
 use Rattle.bench_world.specs.Worlds.{GroupState, world_of}
 
@@ -25,8 +25,8 @@ carried_out env e old (Err fault) new made = tt
 -- What is reported of it names all members, as what the model reports does.
 pub is_reported : (env : Environment) (e : EventValue) (old : GroupState) (r : Result Happened EventError)
     (new : GroupState) → IsStep env e old r new
-    → NamesAll (length old.keys.members.names) (event_report old.keys env (world_of old) e)
+    → NamesInRange (length old.keys.members.names) (event_report old.keys env (world_of old) e)
     → IfOk r (λ happened. IsReportOf env e old (report_value happened))
 is_reported env e old (Ok happened) new made all =
-    record { report = made.report; all = subst (NamesAll (length old.keys.members.names)) (sym made.report) all }
+    record { report = made.report; all = subst (NamesInRange (length old.keys.members.names)) (sym made.report) all }
 is_reported env e old (Err fault) new made all = tt

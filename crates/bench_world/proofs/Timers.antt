@@ -7,7 +7,7 @@ use Rattle.std.proofs.lemmas.List.Elements.{All-append}
 use Rattle.bench_net.specs.SentList.{SentPacket, sent_packet}
 use Rattle.svs_sync.specs.declared.fired.Fired.{Fired}
 use Rattle.svs_sync.specs.declared.fired.Fired.TheVariants as fired
-use Rattle.svs_sync.specs.SyncStates.{fires_joined}
+use Rattle.svs_sync.specs.SyncStates.{when_fired}
 use Rattle.group_model.specs.Member.{Member}
 use Rattle.group_model.specs.Events.{SyncInterest, Event}
 use Rattle.group_model.specs.World.{World, no_member, member}
@@ -42,16 +42,16 @@ later_state s is few ms short =
 
 module _ (s : GroupState) (is : IsConsistentState s) (m : ℕ) (there : m < length s.members) (old : MemberState)
     (old_is : old ≡ get_or s.members m old) where
-  timer_is : timer_at (world_of s) m ≡ fires_joined s.time old.known old.machine
-  timer_is = ap (λ (x : Member). fires_joined s.time x.known x.machine) (member_is s is m there old old_is)
+  timer_is : timer_at (world_of s) m ≡ when_fired s.time old.known old.machine
+  timer_is = ap (λ (x : Member). when_fired s.time x.known x.machine) (member_is s is m there old old_is)
 
   pub fires_so : (n : ℕ) (fire : Fire) (received : ReportValue)
-      → IsFireAnswer (fires_joined s.time old.known old.machine) (sync_of s.keys old.number old.known) fire
+      → IsFireAnswer (when_fired s.time old.known old.machine) (sync_of s.keys old.number old.known) fire
       → received ≡ fire_report m n fire → n ≡ length s.sent + 1
       → received ≡ fired_report m (length (map sync_in s.sent) + 1) (timer_at (world_of s) m)
   fires_so n fire received tells e n_is =
       e
-      ∙ go (fires_joined s.time old.known old.machine) fire tells
+      ∙ go (when_fired s.time old.known old.machine) fire tells
       ∙ (λ i. fired_report m (count i) (sym timer_is i)) where
         count : n ≡ length (map sync_in s.sent) + 1
         count = let k = length-map s.sent sync_in in omega (arith, n_is, k)
@@ -95,7 +95,7 @@ module _ (s : GroupState) (is : IsConsistentState s) (m : ℕ) (there : m < leng
     -- ---- a timer
 
     module _ (b_is : b ≡ member_fires s.time n old) (fire : Fire)
-        (tells : IsFireAnswer (fires_joined s.time old.known old.machine) (sync_of s.keys old.number old.known) fire)
+        (tells : IsFireAnswer (when_fired s.time old.known old.machine) (sync_of s.keys old.number old.known) fire)
         (sent reserved : List SentPacket) (vector : List ℕ)
         (reserved_is : reserved ≡ s.sent) (vector_is : vector ≡ old.known)
         (sent_is : sent ≡ after_firing m vector fire reserved) where
@@ -187,4 +187,4 @@ module _ (s : GroupState) (is : IsConsistentState s) (m : ℕ) (there : m < leng
           (fires_consistent s.keys (logs_around s.members) s.time n old (consistent s is m there old old_is)))
           sent s.time s.tally
           (subst (All (IsConsistentSync s.keys (logs_around s.members))) (sym sent_so)
-          (all_sent (fires_joined s.time old.known old.machine) fire tells)) fired_world
+          (all_sent (when_fired s.time old.known old.machine) fire tells)) fired_world

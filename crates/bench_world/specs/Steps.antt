@@ -20,35 +20,35 @@ use Rattle.bench_world.specs.EventValues.{EventValue, ReportValue}
 
 -- There are so many members; the members and fetchers that an event names are there, and what is said is within its
 -- limits.
-abbrev pub IsReady : ℕ → EventValue → Type 0
-IsReady n (EventValue.Publish m name size content) =
+abbrev pub EventInRange : ℕ → EventValue → Type 0
+EventInRange n (EventValue.Publish m name size content) =
     (m < n) × IsTrue (is_object_name name) × (1 ≤ size) × (size ≤ 8000) × (length (pieces size content) ≤ 20000)
-IsReady n (EventValue.Withdraw m s) = (m < n) × (s < 65536)
-IsReady n (EventValue.Deliver k m) = m < n
-IsReady n (EventValue.Sync k) = Unit {0}
-IsReady n (EventValue.Advance ms) = ms ≤ 1000000000
-IsReady n (EventValue.Fire m) = m < n
-IsReady n (EventValue.Restart m) = m < n
-IsReady n (EventValue.Vector m) = m < n
-IsReady n (EventValue.Catalogue m) = m < n
-IsReady n (EventValue.Claim m f) = (m < n) × IsFetcher f
-IsReady n (EventValue.Lose m f) = (m < n) × IsFetcher f
-IsReady n (EventValue.Answer m f q) = (m < n) × IsFetcher f × (q < n)
-IsReady n (EventValue.Fetch m workers tries loss) =
+EventInRange n (EventValue.Withdraw m s) = (m < n) × (s < 65536)
+EventInRange n (EventValue.Deliver k m) = m < n
+EventInRange n (EventValue.Sync k) = Unit {0}
+EventInRange n (EventValue.Advance ms) = ms ≤ 1000000000
+EventInRange n (EventValue.Fire m) = m < n
+EventInRange n (EventValue.Restart m) = m < n
+EventInRange n (EventValue.Vector m) = m < n
+EventInRange n (EventValue.Catalogue m) = m < n
+EventInRange n (EventValue.Claim m f) = (m < n) × IsFetcher f
+EventInRange n (EventValue.Lose m f) = (m < n) × IsFetcher f
+EventInRange n (EventValue.Answer m f q) = (m < n) × IsFetcher f × (q < n)
+EventInRange n (EventValue.Fetch m workers tries loss) =
     (m < n) × (1 ≤ workers) × (workers ≤ 16) × (1 ≤ tries) × (tries ≤ 16)
-IsReady n (EventValue.Settle workers) = (1 ≤ workers) × (workers ≤ 16)
-IsReady n (EventValue.Dump m p s x) = (m < n) × (s < 65536) × (x < 65536)
-IsReady n (EventValue.Hear m octets) = m < n
-IsReady n (EventValue.Ask m octets) = m < n
-IsReady n (EventValue.Feed m f octets) = (m < n) × IsFetcher f
-IsReady n (EventValue.Order m octets) = m < n
-IsReady n (EventValue.Insert m client name first last) =
+EventInRange n (EventValue.Settle workers) = (1 ≤ workers) × (workers ≤ 16)
+EventInRange n (EventValue.Dump m p s x) = (m < n) × (s < 65536) × (x < 65536)
+EventInRange n (EventValue.Hear m octets) = m < n
+EventInRange n (EventValue.Ask m octets) = m < n
+EventInRange n (EventValue.Feed m f octets) = (m < n) × IsFetcher f
+EventInRange n (EventValue.Order m octets) = m < n
+EventInRange n (EventValue.Insert m client name first last) =
     (m < n) × IsTrue (is_object_name name) × (first ≤ last) × (last < first + 200)
-IsReady n (EventValue.Block m process index content) = (m < n) × IsContent content
-IsReady n (EventValue.Status m client process) = m < n
-IsReady n (EventValue.Delete m client name) = (m < n) × IsTrue (is_object_name name)
-IsReady n EventValue.Summary = Unit {0}
-IsReady n EventValue.Traffic = Unit {0}
+EventInRange n (EventValue.Block m process index content) = (m < n) × IsContent content
+EventInRange n (EventValue.Status m client process) = m < n
+EventInRange n (EventValue.Delete m client name) = (m < n) × IsTrue (is_object_name name)
+EventInRange n EventValue.Summary = Unit {0}
+EventInRange n EventValue.Traffic = Unit {0}
 
 -- There are so many clients, and the one that an event names is there.
 abbrev pub NamesClient : ℕ → EventValue → Type 0
@@ -110,45 +110,45 @@ HearNamesMember n hear.NoMemory = ⊥
 
 -- Each number that stands for a member is that of one of so many. Where all are named, they stand in order, each
 -- with a number, or with its sums.
-abbrev pub NamesAll : ℕ → ReportValue → Type 0
-NamesAll n ReportValue.Nothing = Unit {0}
-NamesAll n (ReportValue.Publish m seq segments sync) = m < n
-NamesAll n (ReportValue.Withdraw m seq withdrawn sync) = m < n
-NamesAll n (ReportValue.DeliverSteady k m) = m < n
-NamesAll n (ReportValue.DeliverSuppressed k m) = m < n
-NamesAll n (ReportValue.Sync k octets) = Unit {0}
-NamesAll n (ReportValue.Advance now) = Unit {0}
-NamesAll n (ReportValue.FireEarly m) = m < n
-NamesAll n (ReportValue.FireQuiet m) = m < n
-NamesAll n (ReportValue.FireSent m k) = m < n
-NamesAll n (ReportValue.Restart m) = m < n
-NamesAll n (ReportValue.Vector m members numbers) = (members ≡ numbers_from 0 n) × (length numbers ≡ n) × (m < n)
-NamesAll n (ReportValue.Catalogue m count entries) = (m < n) × All (λ e. e.publisher < n) entries
-NamesAll n (ReportValue.ClaimPart m f publisher seq x) = (m < n) × (publisher < n)
-NamesAll n (ReportValue.ClaimNone m f) = m < n
-NamesAll n (ReportValue.Lose m f publisher seq x) = (m < n) × (publisher < n)
-NamesAll n (ReportValue.AnswerKept m f) = m < n
-NamesAll n (ReportValue.AnswerNone m f) = m < n
-NamesAll n (ReportValue.Fetch m planned kept attempts) = m < n
-NamesAll n (ReportValue.Settle syncs kept) = Unit {0}
-NamesAll n (ReportValue.DumpHex m octets) = m < n
-NamesAll n (ReportValue.DumpNone m) = m < n
-NamesAll n (ReportValue.HearSteady m) = m < n
-NamesAll n (ReportValue.HearSuppressed m) = m < n
-NamesAll n (ReportValue.HearRefused m refusal) = (m < n) × HearNamesMember n refusal
-NamesAll n (ReportValue.AskFound m octets) = m < n
-NamesAll n (ReportValue.AskNone m) = m < n
-NamesAll n (ReportValue.AskRefused m refusal) = m < n
-NamesAll n (ReportValue.FeedKept m f) = m < n
-NamesAll n (ReportValue.FeedRefused m f refusal) = m < n
-NamesAll n (ReportValue.Order m code process inserted deleted) = m < n
-NamesAll n (ReportValue.Insert m code process inserted deleted) = m < n
-NamesAll n (ReportValue.Status m code process inserted deleted) = m < n
-NamesAll n (ReportValue.Delete m code process inserted deleted) = m < n
-NamesAll n (ReportValue.Block300 m) = m < n
-NamesAll n (ReportValue.Block404 m) = m < n
-NamesAll n (ReportValue.Block200 m) = m < n
-NamesAll n (ReportValue.BlockPublished m seq sync) = m < n
-NamesAll n (ReportValue.Summary members entries segments octets) =
+abbrev pub NamesInRange : ℕ → ReportValue → Type 0
+NamesInRange n ReportValue.Nothing = Unit {0}
+NamesInRange n (ReportValue.Publish m seq segments sync) = m < n
+NamesInRange n (ReportValue.Withdraw m seq withdrawn sync) = m < n
+NamesInRange n (ReportValue.DeliverSteady k m) = m < n
+NamesInRange n (ReportValue.DeliverSuppressed k m) = m < n
+NamesInRange n (ReportValue.Sync k octets) = Unit {0}
+NamesInRange n (ReportValue.Advance now) = Unit {0}
+NamesInRange n (ReportValue.FireEarly m) = m < n
+NamesInRange n (ReportValue.FireQuiet m) = m < n
+NamesInRange n (ReportValue.FireSent m k) = m < n
+NamesInRange n (ReportValue.Restart m) = m < n
+NamesInRange n (ReportValue.Vector m members numbers) = (members ≡ numbers_from 0 n) × (length numbers ≡ n) × (m < n)
+NamesInRange n (ReportValue.Catalogue m count entries) = (m < n) × All (λ e. e.publisher < n) entries
+NamesInRange n (ReportValue.ClaimPart m f publisher seq x) = (m < n) × (publisher < n)
+NamesInRange n (ReportValue.ClaimNone m f) = m < n
+NamesInRange n (ReportValue.Lose m f publisher seq x) = (m < n) × (publisher < n)
+NamesInRange n (ReportValue.AnswerKept m f) = m < n
+NamesInRange n (ReportValue.AnswerNone m f) = m < n
+NamesInRange n (ReportValue.Fetch m planned kept attempts) = m < n
+NamesInRange n (ReportValue.Settle syncs kept) = Unit {0}
+NamesInRange n (ReportValue.DumpHex m octets) = m < n
+NamesInRange n (ReportValue.DumpNone m) = m < n
+NamesInRange n (ReportValue.HearSteady m) = m < n
+NamesInRange n (ReportValue.HearSuppressed m) = m < n
+NamesInRange n (ReportValue.HearRefused m refusal) = (m < n) × HearNamesMember n refusal
+NamesInRange n (ReportValue.AskFound m octets) = m < n
+NamesInRange n (ReportValue.AskNone m) = m < n
+NamesInRange n (ReportValue.AskRefused m refusal) = m < n
+NamesInRange n (ReportValue.FeedKept m f) = m < n
+NamesInRange n (ReportValue.FeedRefused m f refusal) = m < n
+NamesInRange n (ReportValue.Order m code process inserted deleted) = m < n
+NamesInRange n (ReportValue.Insert m code process inserted deleted) = m < n
+NamesInRange n (ReportValue.Status m code process inserted deleted) = m < n
+NamesInRange n (ReportValue.Delete m code process inserted deleted) = m < n
+NamesInRange n (ReportValue.Block300 m) = m < n
+NamesInRange n (ReportValue.Block404 m) = m < n
+NamesInRange n (ReportValue.Block200 m) = m < n
+NamesInRange n (ReportValue.BlockPublished m seq sync) = m < n
+NamesInRange n (ReportValue.Summary members entries segments octets) =
     (members ≡ numbers_from 0 n) × (length entries ≡ n) × (length segments ≡ n) × (length octets ≡ n)
-NamesAll n (ReportValue.Traffic syncs delivered attempts parts octets) = Unit {0}
+NamesInRange n (ReportValue.Traffic syncs delivered attempts parts octets) = Unit {0}

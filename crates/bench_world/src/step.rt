@@ -5,7 +5,7 @@ ghost use Rattle.group_model.specs.Refusals.{refusal};
 ghost use Rattle.bench_world.specs.Serving.{environment};
 ghost use Rattle.bench_world.specs.Worlds.{world_of};
 ghost use Rattle.bench_world.specs.EventValues.{event_value, group_event, report_value};
-ghost use Rattle.bench_world.specs.Steps.{IsReady, NamesClient, IsFaultOf, IsStepFaultOf};
+ghost use Rattle.bench_world.specs.Steps.{EventInRange, NamesClient, IsFaultOf, IsStepFaultOf};
 ghost use Rattle.bench_world.specs.Runs.{StandsAsBefore, IsStep, event_values, IsStopped};
 ghost use Rattle.bench_world.specs.CarryingOut.{EventFits, HasCarriedOut, IsReportOf, HaveCarriedOut};
 ghost use Rattle.bench_world.specs.CarryingOut.{KeepsKeysAndMirrors};
@@ -71,7 +71,7 @@ impl World {
 
     // Who is about to be asked by name has the names of its packets in order.
     fn order_names_for(&mut self, event: &Event)
-        requires { IsReady (length self.old.members) (event_value event.now) }
+        requires { EventInRange (length self.old.members) (event_value event.now) }
         ensures { self.new ≡ self.old }
     {
         match event {
@@ -89,7 +89,7 @@ impl World {
         net: &N,
         draws: &D,
     ) -> Result<Happened, EventError>
-        requires ready { IsReady (length self.old.members) (event_value event.now) }
+        requires ready { EventInRange (length self.old.members) (event_value event.now) }
         requires clients { NamesClient (length self.old.keys.clients.names) (event_value event.now) }
         requires few { self.old.steps < 100000 }
         ensures { IsStep (environment self.old.keys (D.draw draws.now) (N.passes net.now)) (event_value event.now)

@@ -14,7 +14,7 @@ use Rattle.sorted_lists.proofs.Ranges.{length-numbers}
 use Rattle.repo_plan.proofs.Known.{unclaimed_rises}
 use Rattle.svs_sync.specs.declared.fired.Fired.{Fired}
 use Rattle.svs_sync.specs.declared.fired.Fired.TheVariants.{Early, Quiet, Send}
-use Rattle.svs_sync.specs.SyncStates.{SyncState, steady_joined, hears_joined}
+use Rattle.svs_sync.specs.SyncStates.{SyncState, becomes_steady, after_hearing}
 use Rattle.svs_vector.specs.Vectors.{covers}
 use Rattle.repo_object.specs.Objects.{Post, contents_of}
 use Rattle.repo_object.specs.Objects.Post.{Offers, Withdraws}
@@ -204,10 +204,10 @@ within_fire env s w j Quiet h = within_reset env s w j w.sent (same_sent s w h) 
 within_fire env s w j Send h = within_reset env s w j _ (more_sent s w _ h) h
 
 one_draw : (time : ℕ) (received known : List ℕ) (draw : ℕ) (k : SyncState) (heard : Option (List ℕ))
-    → (hears_joined time received known draw k heard).draws ≤ k.draws + 1
+    → (after_hearing time received known draw k heard).draws ≤ k.draws + 1
 one_draw time received known draw k None = go (covers received known) _ where
   go : (b : Bool) (deadline : ℕ)
-      → (cond b (steady_joined time draw k)
+      → (cond b (becomes_steady time draw k)
       (record k { heard = Some received; deadline = deadline; draws = k.draws + 1 })).draws
       ≤ k.draws + 1
   go true deadline = omega arith

@@ -13,8 +13,8 @@ use Rattle.svs_sync.specs.declared.fired.Fired.{Fired}
 use Rattle.svs_sync.specs.declared.fired.Fired.TheVariants.{Early, Quiet, Send}
 use Rattle.svs_sync.specs.Suppression.{periodic}
 use Rattle.svs_sync.specs.Suppression.SyncEvent.{published, heard, fired, reset}
-use Rattle.svs_sync.specs.SyncStates.{SyncState, kept, steady_joined, due_joined, fires_joined, after_event_joined}
-use Rattle.svs_sync.specs.SyncStates.{after_events_joined}
+use Rattle.svs_sync.specs.SyncStates.{SyncState, kept, becomes_steady, when_due, when_fired, state_after_event}
+use Rattle.svs_sync.specs.SyncStates.{state_after_events}
 use Rattle.svs_sync.proofs.KeptLemmas.{after_all_same, fires_same}
 use Rattle.repo_object.specs.Objects.{Post}
 use Rattle.repo_object.specs.Objects.Post.{Offers, Withdraws}
@@ -48,25 +48,25 @@ use Rattle.svs_sync.specs.Suppression
 
 -- what happened to a sync state makes the second of the first
 abbrev Makes : List Suppression.SyncEvent → Member → Member → Type 0
-Makes es old new = new.machine ≡ after_events_joined es old.machine
+Makes es old new = new.machine ≡ state_after_events es old.machine
 
-one : (e : Suppression.SyncEvent) (k : SyncState) → after_events_joined (e ∷ []) k ≡ after_event_joined e k
-unfolding after_events_joined
+one : (e : Suppression.SyncEvent) (k : SyncState) → state_after_events (e ∷ []) k ≡ state_after_event e k
+unfolding state_after_events
 one e k = refl
 
-none : (k : SyncState) → after_events_joined [] k ≡ k
-unfolding after_events_joined
+none : (k : SyncState) → state_after_events [] k ≡ k
+unfolding state_after_events
 none k = refl
 
 in_turn : (xs ys : List Suppression.SyncEvent) (k : SyncState)
-    → after_events_joined (xs ++ ys) k ≡ after_events_joined ys (after_events_joined xs k)
-unfolding after_events_joined
+    → state_after_events (xs ++ ys) k ≡ state_after_events ys (state_after_events xs k)
+unfolding state_after_events
 in_turn [] ys k = refl
-in_turn (x ∷ xs) ys k = in_turn xs ys (after_event_joined x k)
+in_turn (x ∷ xs) ys k = in_turn xs ys (state_after_event x k)
 
 -- one member changes, by what happened to its sync state
 makes_set : (w : World) (i : ℕ) (m : Member) (e : Suppression.SyncEvent) (j : ℕ) → j < length w.members
-    → m.machine ≡ after_event_joined e (member w i).machine
+    → m.machine ≡ state_after_event e (member w i).machine
     → Makes (only_at i j e) (member w j) (get_or (set w.members i m) j no_member)
 makes_set w i m e j l h = elim (cases_Bool (i == j)) [
   | inl y ↦
@@ -76,14 +76,14 @@ makes_set w i m e j l h = elim (cases_Bool (i == j)) [
       ∙ get_or-set_same w.members i m no_member (subst (λ (k : ℕ). k < length w.members) (sym same) l) in
       ap (λ (x : Member). x.machine) there
       ∙ h
-      ∙ ap (λ (k : ℕ). after_event_joined e (member w k).machine) same
-      ∙ sym (ap (λ (b : Bool). after_events_joined (cond b (e ∷ []) []) (member w j).machine) y
+      ∙ ap (λ (k : ℕ). state_after_event e (member w k).machine) same
+      ∙ sym (ap (λ (b : Bool). state_after_events (cond b (e ∷ []) []) (member w j).machine) y
       ∙ one e (member w j).machine)
   | inr n ↦
       let other : get_or (set w.members i m) j no_member ≡ member w j =
       get_or-set_other w.members i j m no_member (λ same. eqb-false i j n (sym same)) in
       ap (λ (x : Member). x.machine) other
-      ∙ sym (ap (λ (b : Bool). after_events_joined (cond b (e ∷ []) []) (member w j).machine) n
+      ∙ sym (ap (λ (b : Bool). state_after_events (cond b (e ∷ []) []) (member w j).machine) n
       ∙ none (member w j).machine)
 ]
 
@@ -119,16 +119,16 @@ makes_came env w v i f (Some t) Nothing j e =
     ap (λ (ms : List Member). (get_or ms j no_member).machine) e ∙ makes_none (member w j)
 makes_came env w v i f (Some t) Its j e =
     makes_beside v.members i _ j refl
-    ∙ ap (λ (ms : List Member). after_events_joined [] (get_or ms j no_member).machine) e
+    ∙ ap (λ (ms : List Member). state_after_events [] (get_or ms j no_member).machine) e
 makes_came env w v i f (Some t) Another j e =
     makes_beside v.members i _ j refl
-    ∙ ap (λ (ms : List Member). after_events_joined [] (get_or ms j no_member).machine) e
+    ∙ ap (λ (ms : List Member). state_after_events [] (get_or ms j no_member).machine) e
 
 makes_command : (w v : World) (i : ℕ) (command : Command) (j : ℕ) → v.members ≡ w.members
     → Makes [] (member w j) (member (after_command v i command) j)
 makes_command w v i (Insert name first last) j e =
     go (can_start (member v i))
-    ∙ ap (λ (ms : List Member). after_events_joined [] (get_or ms j no_member).machine) e where
+    ∙ ap (λ (ms : List Member). state_after_events [] (get_or ms j no_member).machine) e where
       go : (b : Bool)
           → Makes [] (member v j) (member (cond b (with_member v i (member_starts name first last (member v i))) v) j)
       go true = makes_beside v.members i _ j refl
@@ -137,7 +137,7 @@ makes_command w v i (Check process) j e =
     ap (λ (ms : List Member). (get_or ms j no_member).machine) e ∙ makes_none (member w j)
 makes_command w v i (Delete name) j e =
     makes_beside v.members i _ j (machine_deletes (catalogued_under (logs v) (member v i) name) (member v i))
-    ∙ ap (λ (ms : List Member). after_events_joined [] (get_or ms j no_member).machine) e
+    ∙ ap (λ (ms : List Member). state_after_events [] (get_or ms j no_member).machine) e
 
 makes_order : (w : World) (i : ℕ) (read : Result (ℕ × Command) ℕ) (j : ℕ)
     → Makes [] (member w j) (member (after_order w i read) j)
@@ -146,13 +146,13 @@ makes_order w i (Err code) j = makes_none (member w j)
 
 makes_publish : (env : Environment) (w : World) (i : ℕ) (o : Post) (j : ℕ) → j < length w.members
     → Makes (only_at i j (published w.time (drawn env w i))) (member w j) (member (after_publish env w i o) j)
-unfolding after_event_joined
+unfolding state_after_event
 makes_publish env w i o j l =
     makes_set w i (publishes (drawn env w i) w.time i o (member w i)) (published w.time (drawn env w i)) j l refl
 
 makes_deliver : (env : Environment) (w : World) (i : ℕ) (received : List ℕ) (j : ℕ) → j < length w.members
     → Makes (hears_of env w i j received) (member w j) (member (after_deliver env w i received) j)
-unfolding after_event_joined
+unfolding state_after_event
 makes_deliver env w i received j l =
     makes_set w i (learns (drawn env w i) w.time received (member w i))
     (heard w.time received (member w i).known (drawn env w i)) j l refl
@@ -168,22 +168,22 @@ makes_hear env w i (Some sync) j l = go (exceeds_log w i sync) where
   go false = makes_deliver env w i sync.vector j l
 
 makes_reset : (env : Environment) (w : World) (i : ℕ) (j : ℕ) (m : Member) → j < length w.members
-    → m.machine ≡ steady_joined w.time (drawn env w i) (member w i).machine
+    → m.machine ≡ becomes_steady w.time (drawn env w i) (member w i).machine
     → Makes (only_at i j (reset w.time (drawn env w i))) (member w j) (get_or (set w.members i m) j no_member)
-unfolding after_event_joined
+unfolding state_after_event
 makes_reset env w i j m l e = makes_set w i m (reset w.time (drawn env w i)) j l e
 
 -- a member stays as it is, which is what happened to its sync state makes of it
 makes_same : (w : World) (i : ℕ) (e : Suppression.SyncEvent) (j : ℕ)
-    → (member w i).machine ≡ after_event_joined e (member w i).machine → Makes (only_at i j e) (member w j) (member w j)
+    → (member w i).machine ≡ state_after_event e (member w i).machine → Makes (only_at i j e) (member w j) (member w j)
 makes_same w i e j h = elim (cases_Bool (i == j)) [
   | inl y ↦
       let same : i ≡ j = eqb-true i j y in
-      subst (λ (k : ℕ). (member w k).machine ≡ after_event_joined e (member w k).machine) same h
-      ∙ sym (ap (λ (b : Bool). after_events_joined (cond b (e ∷ []) []) (member w j).machine) y
+      subst (λ (k : ℕ). (member w k).machine ≡ state_after_event e (member w k).machine) same h
+      ∙ sym (ap (λ (b : Bool). state_after_events (cond b (e ∷ []) []) (member w j).machine) y
       ∙ one e (member w j).machine)
   | inr n ↦
-      sym (ap (λ (b : Bool). after_events_joined (cond b (e ∷ []) []) (member w j).machine) n
+      sym (ap (λ (b : Bool). state_after_events (cond b (e ∷ []) []) (member w j).machine) n
       ∙ none (member w j).machine)
 ]
 
@@ -194,7 +194,7 @@ IsDue Early = ⊥
 IsDue Quiet = Unit {0}
 IsDue Send = Unit {0}
 
-due : (known : List ℕ) (h : Option (List ℕ)) → IsDue (due_joined known h)
+due : (known : List ℕ) (h : Option (List ℕ)) → IsDue (when_due known h)
 due known None = tt
 due known (Some v) = either (covers v known) where
   either : (b : Bool) → IsDue (cond b Quiet Send)
@@ -202,20 +202,20 @@ due known (Some v) = either (covers v known) where
   either false = tt
 
 fired_then : (now : ℕ) (known : List ℕ) (draw : ℕ) (k : SyncState) → ltb now k.deadline ≡ false
-    → after_event_joined (fired now known draw) k ≡ steady_joined now draw k
-unfolding after_event_joined
-fired_then now known draw k e = ap (λ (b : Bool). cond b k (steady_joined now draw k)) e
+    → state_after_event (fired now known draw) k ≡ becomes_steady now draw k
+unfolding state_after_event
+fired_then now known draw k e = ap (λ (b : Bool). cond b k (becomes_steady now draw k)) e
 
 fired_early : (now : ℕ) (known : List ℕ) (draw : ℕ) (k : SyncState) → ltb now k.deadline ≡ true
-    → after_event_joined (fired now known draw) k ≡ k
-unfolding after_event_joined
-fired_early now known draw k e = ap (λ (b : Bool). cond b k (steady_joined now draw k)) e
+    → state_after_event (fired now known draw) k ≡ k
+unfolding state_after_event
+fired_early now known draw k e = ap (λ (b : Bool). cond b k (becomes_steady now draw k)) e
 
 makes_fire : (env : Environment) (w : World) (i j : ℕ) → j < length w.members
     → Makes (only_at i j (fired w.time (member w i).known (drawn env w i))) (member w j)
     (member (after_fire env w i (timer_at w i)) j)
 makes_fire env w i j l =
-    go (ltb w.time (member w i).machine.deadline) refl (due_joined (member w i).known (member w i).machine.heard)
+    go (ltb w.time (member w i).machine.deadline) refl (when_due (member w i).known (member w i).machine.heard)
     (due (member w i).known (member w i).machine.heard) where
       go : (b : Bool) → ltb w.time (member w i).machine.deadline ≡ b → (f : Fired) → IsDue f
           → Makes (only_at i j (fired w.time (member w i).known (drawn env w i))) (member w j)
@@ -242,12 +242,12 @@ makes_block env w i process (Whole p) j li l =
     makes_beside w.members i _ j refl ∙ none (member w j).machine in
     let same : drawn env v i ≡ drawn env w i = ap (λ (k : SyncState). env.draw i k.draws) here in
     makes_publish env v i (Offers (object_of p)) j (subst (λ (n : ℕ). j < n) (sym (length-set w.members i _)) l)
-    ∙ ap (λ (d : ℕ). after_events_joined (only_at i j (published w.time d)) (member v j).machine) same
-    ∙ ap (λ (k : SyncState). after_events_joined (only_at i j (published w.time (drawn env w i))) k) there
+    ∙ ap (λ (d : ℕ). state_after_events (only_at i j (published w.time d)) (member v j).machine) same
+    ∙ ap (λ (k : SyncState). state_after_events (only_at i j (published w.time (drawn env w i))) k) there
 
 makes_settle : (env : Environment) (w : World) (j : ℕ) → j < length w.members
     → Makes (reset w.time (drawn env w j) ∷ []) (member w j) (member (after_settle env w) j)
-unfolding after_events_joined after_event_joined
+unfolding state_after_events state_after_event
 makes_settle env w j l = ap (λ (m : Member). m.machine) (member_settled env w j l)
 
 makes : (env : Environment) (w : World) (e : Event) (j : ℕ) → EventIsTaken env w e → j < length w.members
@@ -287,7 +287,7 @@ makes_all env [] w j h s l = makes_none (member w j)
 makes_all env (e ∷ es) w j h s l =
     let width : length (after_event env w e).members ≡ length w.members = (lasts env w e h.0 s).width in
     makes_all env es (after_event env w e) j h.1 (sound_after env w e h.0 s) (subst (λ (n : ℕ). j < n) (sym width) l)
-    ∙ ap (after_events_joined (happens_over env (after_event env w e) j es)) (makes env w e j h.0 l)
+    ∙ ap (state_after_events (happens_over env (after_event env w e) j es)) (makes env w e j h.0 l)
     ∙ sym (in_turn (happens_to env w j e) (happens_over env (after_event env w e) j es) (member w j).machine)
 
 pub machines_follow_table : InSoundGroups MachinesFollowTable
@@ -295,13 +295,13 @@ machines_follow_table env w s es n j first h l e =
     let same : (member (after_events env w es) j).machine
     ≡ kept n (Suppression.after_sync_events (happens_over env w j es) first) =
     makes_all env es w j h s l
-    ∙ ap (after_events_joined (happens_over env w j es)) e
+    ∙ ap (state_after_events (happens_over env w j es)) e
     ∙ after_all_same n (happens_over env w j es) first in
     record {
       machine = same;
       timer =
           let last : World = after_events env w es in
-          ap (fires_joined last.time (member last j).known) same
+          ap (when_fired last.time (member last j).known) same
           ∙ fires_same n last.time (member last j).known
           (Suppression.after_sync_events (happens_over env w j es) first);
     }

@@ -10,7 +10,7 @@ use Rattle.repo_plan.specs.Plan.{is_wanted, is_claimed}
 use Rattle.repo_plan.proofs.Changes.{at_set, unclaimed_at}
 use Rattle.svs_vector.specs.Vectors.{join, covers}
 use Rattle.svs_vector.proofs.JoinLemmas.{join-at, length-join}
-use Rattle.svs_sync.specs.SyncStates.{SyncState, steady_joined, hears_joined}
+use Rattle.svs_sync.specs.SyncStates.{SyncState, becomes_steady, after_hearing}
 use Rattle.group_model.specs.Publications.{Logs, last_of, count, shape_at}
 use Rattle.repo_process.specs.Processes.{Process}
 use Rattle.group_model.specs.Member.{Member, member_holds, plan_of}
@@ -170,11 +170,11 @@ consistent_join ls v w a b = record {
 
 heard_hears : (ls : Logs) (time draw : ℕ) (received known : List ℕ) (k : SyncState) (heard : Option (List ℕ))
     → IsConsistentVector ls received → HeardConsistently ls heard
-    → HeardConsistently ls (hears_joined time received known draw k heard).heard
+    → HeardConsistently ls (after_hearing time received known draw k heard).heard
 heard_hears ls time draw received known k None t h = go (covers received known) _ _ where
   go : (b : Bool) (deadline draws : ℕ)
       → HeardConsistently ls
-      (cond b (steady_joined time draw k)
+      (cond b (becomes_steady time draw k)
       (record k { heard = Some received; deadline = deadline; draws = draws })).heard
   go true deadline draws = tt
   go false deadline draws = t

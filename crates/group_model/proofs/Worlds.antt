@@ -17,7 +17,7 @@ use Rattle.sorted_lists.proofs.Members.{in_filtered, in_take}
 use Rattle.repo_plan.proofs.Known.{contains-unclaimed}
 use Rattle.svs_sync.specs.declared.fired.Fired.{Fired}
 use Rattle.svs_sync.specs.declared.fired.Fired.TheVariants.{Early, Quiet, Send}
-use Rattle.svs_sync.specs.SyncStates.{steady_joined}
+use Rattle.svs_sync.specs.SyncStates.{becomes_steady}
 use Rattle.repo_object.specs.Objects.{Post, shape_in}
 use Rattle.repo_object.specs.Objects.Post.{Offers, Withdraws}
 use Rattle.group_model.specs.Publications.{Logs, last_of, post_at, no_post}
@@ -254,7 +254,7 @@ sound_reset : (env : Environment) (w : World) (j : ℕ) → j < length w.members
 sound_reset env w j l s =
     let m : Member = member w j in
     sound_set w j (resets (drawn env w j) w.time m) w.time w.issued w.tally refl
-    (with_machine (logs w) j m (steady_joined w.time (drawn env w j) m.machine) m.processes m.next_process
+    (with_machine (logs w) j m (becomes_steady w.time (drawn env w j) m.machine) m.processes m.next_process
     (s.members j l) tt) s
 
 sound_fire : (env : Environment) (w : World) (j : ℕ) (f : Fired) → j < length w.members → IsSoundGroup w

@@ -7,14 +7,14 @@ use Rattle.repo_plan.specs.declared.part.Part.{Part}
 use Rattle.sorted_lists.specs.SortedList.{with_value}
 use Rattle.repo_plan.specs.Parts.{parts_of, last_part}
 use Rattle.svs_vector.specs.Vectors.{join}
-use Rattle.svs_sync.specs.SyncStates.{steady_joined, hears_joined}
+use Rattle.svs_sync.specs.SyncStates.{becomes_steady, after_hearing}
 use Rattle.repo_object.specs.Objects.{Post, shape_in}
 use Rattle.repo_process.specs.Processes.{Process, starting}
 use Rattle.group_model.specs.Member.{Member, gains, insert_keys, member_without_claims}
 
 -- The sync state is Steady again.
 abbrev pub resets : (draw time : ℕ) → Member → Member
-resets draw time m = record m { machine = steady_joined time draw m.machine }
+resets draw time m = record m { machine = becomes_steady time draw m.machine }
 
 -- The member, whose number is given, publishes an object or a withdrawal under its next number and holds all its parts.
 abbrev pub publishes : (draw time number : ℕ) → Post → Member → Member
@@ -24,14 +24,14 @@ publishes draw time number post m =
       log = m.log ++ post ∷ [];
       known = slice_set m.known number seq;
       held = insert_keys (parts_of (number, seq) (last_part (shape_in post))) m.held;
-      machine = steady_joined time draw m.machine;
+      machine = becomes_steady time draw m.machine;
     }
 
 -- The member is informed of a vector.
 abbrev pub learns : (draw time : ℕ) → List ℕ → Member → Member
 learns draw time received m = record m {
   known = join m.known received;
-  machine = hears_joined time received m.known draw m.machine m.machine.heard;
+  machine = after_hearing time received m.known draw m.machine m.machine.heard;
 }
 
 -- Claims and insertion processes end. Numbers of processes go on.

@@ -13,7 +13,7 @@ use Rattle.svs_sync.specs.declared.fired.Fired.{Fired}
 use Rattle.svs_sync.specs.declared.fired.Fired.TheVariants.{Early, Quiet, Send}
 use Rattle.svs_sync.specs.declared.mode.Mode.{Mode}
 use Rattle.svs_sync.specs.Suppression.{mode_of}
-use Rattle.svs_sync.specs.SyncStates.{fires_joined}
+use Rattle.svs_sync.specs.SyncStates.{when_fired}
 use Rattle.repo_object.specs.Objects.{Post}
 use Rattle.repo_object.specs.Objects.Post.{Offers, Withdraws}
 use Rattle.repo_catalog.specs.declared.entry.Entry.{Entry}
@@ -62,7 +62,7 @@ with_sync w j = record w { sent = w.sent ++ record { sender = j; vector = (membe
 
 -- What the timer of a member says.
 abbrev pub timer_at : World → ℕ → Fired
-timer_at w j = fires_joined w.time (member w j).known (member w j).machine
+timer_at w j = when_fired w.time (member w j).known (member w j).machine
 
 -- A vector reports more publications of the member than there are.
 abbrev pub exceeds_log : World → ℕ → SyncInterest → Bool

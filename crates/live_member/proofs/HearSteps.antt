@@ -5,7 +5,7 @@ use Rattle.std.proofs.Common.{refl, ap, sym, ◌∙◌, subst, arith}
 use Rattle.std.specs.Prelude.{nat_lt, slice_index}
 use Rattle.std.proofs.lemmas.Bool.{ltb-false}
 use Rattle.svs_vector.specs.Vectors.{covers}
-use Rattle.svs_sync.specs.SyncStates.{SyncState, steady_joined, hears_joined}
+use Rattle.svs_sync.specs.SyncStates.{SyncState, becomes_steady, after_hearing}
 use Rattle.svs_sync.specs.Suppression.{suppression, mode_of}
 use Rattle.svs_sync.specs.declared.sync_refusal.SyncRefusal.{SyncRefusal}
 use Rattle.repo_object.specs.Objects.{NamedContents}
@@ -32,10 +32,10 @@ use Rattle.live_member.proofs.Around.{width_whole, number_there, is_member, vect
 use Rattle.live_member.proofs.Journals.{IsAfter, IsQuiet}
 
 one_draw : (told known : List ℕ) (draw : ℕ) (k : SyncState) (heard : Option (List ℕ))
-    → (hears_joined 0 told known draw k heard).draws ≤ k.draws + 1
+    → (after_hearing 0 told known draw k heard).draws ≤ k.draws + 1
 one_draw told known draw k None = go (covers told known) where
   go : (b : Bool)
-      → (cond b (steady_joined 0 draw k)
+      → (cond b (becomes_steady 0 draw k)
       (record k { heard = Some told; deadline = 0 + suppression draw; draws = k.draws + 1 })).draws
       ≤ k.draws + 1
   go true = omega arith

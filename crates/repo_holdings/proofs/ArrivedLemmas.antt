@@ -28,7 +28,7 @@ use Rattle.repo_holdings.specs.declared.contents.ContentsDigest.{ContentsDigest}
 use Rattle.repo_holdings.specs.Contents.{IsOver, IsDigestOfEntry, IsDigestIn}
 use Rattle.repo_holdings.specs.declared.holdings.whole.Whole.{Whole}
 use Rattle.repo_holdings.specs.WholeContents.{joined, AreContentsIn, IsWholeIn}
-use Rattle.repo_holdings.specs.Gaining.{AreTied}
+use Rattle.repo_holdings.specs.Gaining.{PlanFits}
 use Rattle.repo_holdings.specs.Taking.{with_fetched, fetched_for, with_fetched_for, PartsDiffer}
 use Rattle.repo_holdings.proofs.ContentLemmas.{flat_append, append_nothing}
 use Rattle.repo_holdings.proofs.GainingLemmas.{contains-value, put_here, shape_stored}
@@ -57,21 +57,21 @@ other_at (job ∷ jobs) u (suc i) d h low =
     other_at jobs u i d (or_parts (eq_by_cmp part_cmp u job.want.part) _ h).1 (omega (arith, low))
 
 -- a packet that came for a part of which none was stored
-pub came_at : (jobs : List Job) (parts : List (Option CheckedPart)) (packets : List Packet) (i : ℕ) (d : Job)
+pub received_at : (jobs : List Job) (parts : List (Option CheckedPart)) (packets : List Packet) (i : ℕ) (d : Job)
     (c : CheckedPart) → PartsDiffer (map job_part jobs) → i < length jobs
     → value_of part_cmp packets (get_or jobs i d).want.part ≡ None → slice_get parts i ≡ Some (Some c)
     → value_of part_cmp (with_fetched_for jobs parts packets) (get_or jobs i d).want.part ≡ Some c.octets
-came_at [] parts packets i d c differ low none there = absurd (omega (arith, low))
-came_at (job ∷ jobs) [] packets i d c differ low none there = absurd cc
-came_at (job ∷ jobs) (part ∷ parts) packets zero d c differ low none there =
+received_at [] parts packets i d c differ low none there = absurd (omega (arith, low))
+received_at (job ∷ jobs) [] packets i d c differ low none there = absurd cc
+received_at (job ∷ jobs) (part ∷ parts) packets zero d c differ low none there =
     let is : part ≡ Some c = cc in
     fetched_stays (fetched_for jobs parts) (with_fetched job.want.part (option_map (λ k. k.octets) part) packets)
     job.want.part c.octets
     (ap (λ (o : Option CheckedPart).
     value_of part_cmp (with_fetched job.want.part (option_map (λ k. k.octets) o) packets) job.want.part) is
     ∙ put_here packets job.want.part c.octets (contains-value packets job.want.part ∙ ap is_some none))
-came_at (job ∷ jobs) (part ∷ parts) packets (suc i) d c differ low none there =
-    came_at jobs parts (with_fetched job.want.part (option_map (λ k. k.octets) part) packets) i d c differ.1
+received_at (job ∷ jobs) (part ∷ parts) packets (suc i) d c differ low none there =
+    received_at jobs parts (with_fetched job.want.part (option_map (λ k. k.octets) part) packets) i d c differ.1
     (omega (arith, low)) (still (option_map (λ k. k.octets) part)) there where
       other : eq_by_cmp part_cmp (get_or jobs i d).want.part job.want.part ≡ false
       other =
@@ -113,7 +113,7 @@ reported_consistently packets w d publisher seq octets digest whole =
 
 -- the contents of the segments of an object of the shape that its stored record tells
 pub contents_are : (plan : PlanState) (packets after : List Packet) (pair : Pair) (shape : Shape)
-    (contents : List (Bor (List ℕ))) → AreTied plan packets → StayStored packets after
+    (contents : List (Bor (List ℕ))) → PlanFits plan packets → StayStored packets after
     → Some shape ≡ shape_of plan pair → joined contents ≡ contents_joined after pair shape
     → AreContentsIn after pair contents
 contents_are plan packets after pair shape contents tied stays summary same =

@@ -23,7 +23,7 @@ use Rattle.repo_holdings.specs.Records.{Packet}
 use Rattle.repo_holdings.specs.Listed.{object_stated, listing_in, stored_at, stated_at, listing_at, listed_shape}
 use Rattle.repo_holdings.specs.StoredParents.{index_at, index_count, lists_at, ListsAsMany, HasParent}
 use Rattle.repo_holdings.specs.declared.record_summary.RecordSummary.{RecordSummary}
-use Rattle.repo_holdings.specs.Gaining.{AreTied, summary_of, summary_shape, shape_in_summary}
+use Rattle.repo_holdings.specs.Gaining.{PlanFits, summary_of, summary_shape, shape_in_summary}
 use Rattle.repo_holdings.proofs.GainingLemmas.{shape_stored, shape_listed, held_value, listing_says}
 
 -- ---- what records tell
@@ -71,7 +71,7 @@ stated_shape_sized t octets = go (t.part == 0) where
 -- ---- what lists a part that is asked for
 
 -- what lists a part that is asked for is stored
-pub asked_segment : (plan : PlanState) (packets : List Packet) (t : Part) → AreTied plan packets
+pub asked_segment : (plan : PlanState) (packets : List Packet) (t : Part) → PlanFits plan packets
     → may_be_asked_for plan t ≡ true → (t.part == 0) ≡ false → HasParent packets t
 asked_segment plan packets t tied asked following = go (stored_at packets (pair_of t) 0) refl where
   summary : shape_of plan (pair_of t) ≡ option_map shape_stated (stated_at packets (pair_of t))

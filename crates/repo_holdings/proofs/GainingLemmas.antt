@@ -23,7 +23,7 @@ use Rattle.repo_holdings.specs.Records.{Packet}
 use Rattle.repo_holdings.specs.Listed.{object_stated, listing_in, listing_at, stored_at, stated_at, listed_shape}
 use Rattle.repo_holdings.specs.Listed.{shapes_in, are_stored, whole_at, entry_listed}
 use Rattle.repo_holdings.specs.StoredParents.{index_count, lists_at, ListsAsMany}
-use Rattle.repo_holdings.specs.Gaining.{AreTied, KeepsOthers, summary_of, summary_shape, shape_in_summary}
+use Rattle.repo_holdings.specs.Gaining.{PlanFits, KeepsOthers, summary_of, summary_shape, shape_in_summary}
 use Rattle.repo_holdings.proofs.SortedMaps.{same_map}
 use Rattle.repo_holdings.proofs.CatalogueLemmas.{shapes_value, shapes_rise}
 
@@ -132,7 +132,7 @@ list_nothing octets (Some l) = tt
 -- ---- the plan of one part more
 
 module _ (plan : PlanState) (packets : List Packet) (t : Part) (octets : List ℕ) (shape : Option Shape)
-    (tied : AreTied plan packets) (fresh : holds plan t ≡ false) where
+    (tied : PlanFits plan packets) (fresh : holds plan t ≡ false) where
   pub absent : contains part_cmp (keys packets) t ≡ false
   absent = ap (λ (ts : List Part). contains part_cmp ts t) (sym tied.held) ∙ fresh
 
@@ -319,7 +319,7 @@ module _ (plan : PlanState) (packets : List Packet) (t : Part) (octets : List �
         refl (t.part == 0) refl
 
   pub tied_too : may_be_asked_for plan t ≡ true → (is_some shape ≡ (t.part == 0)) → shape ≡ shape_in_summary t octets
-      → ListsAsMany octets (lists_at packets t) → AreTied (after_hold t shape plan) (with_packet t octets packets)
+      → ListsAsMany octets (lists_at packets t) → PlanFits (after_hold t shape plan) (with_packet t octets packets)
   tied_too asked is_record summary lists = record {
     in_order = rises;
     held = held_too;
@@ -347,7 +347,7 @@ listing_says (Some octets) l h = go (stated_in octets) h where
       ap (λ (x : Listed). Some (Lists x)) same
   go (Some (WithdrawsNumber seq)) h = absurd cc
 
-module _ (plan : PlanState) (packets : List Packet) (pair : Pair) (tied : AreTied plan packets) where
+module _ (plan : PlanState) (packets : List Packet) (pair : Pair) (tied : PlanFits plan packets) where
   pub shape_stored : shape_of plan pair ≡ option_map shape_stated (stated_at packets pair)
   shape_stored =
       ap (λ (es : List (Pair × Shape)). value_of pair_cmp es pair) tied.shapes ∙ shapes_value packets pair tied.in_order

@@ -26,7 +26,7 @@ use Rattle.repo_holdings.specs.Listed.{stored_at, listing_in, stated_at, listing
 use Rattle.repo_holdings.specs.Listed.{is_withdrawn, is_withdrawal, whole_at, entry_listed, member_catalogue}
 use Rattle.repo_holdings.specs.StoredParents.{index_count, lists_at, ListsAsMany}
 use Rattle.repo_holdings.specs.Noted.{NotesState, AreNotes}
-use Rattle.repo_holdings.specs.Gaining.{AreTied}
+use Rattle.repo_holdings.specs.Gaining.{PlanFits}
 use Rattle.repo_holdings.specs.Hiding.{outside_all, plan_hides, IsHiding}
 use Rattle.repo_holdings.proofs.SortedMaps.{same_map}
 use Rattle.repo_holdings.proofs.CatalogueLemmas.{shapes_value, shapes_rise, unlisted, same_whole}
@@ -118,8 +118,8 @@ module _ (pair : Pair) (packets : List Packet) where
 
 -- ---- the plan
 
-pub tied_hides : (pair : Pair) (plan : PlanState) (packets : List Packet) → AreTied plan packets
-    → AreTied (uses_room (after_hide pair plan)) (packets_outside pair packets)
+pub tied_hides : (pair : Pair) (plan : PlanState) (packets : List Packet) → PlanFits plan packets
+    → PlanFits (uses_room (after_hide pair plan)) (packets_outside pair packets)
 tied_hides pair plan packets tied = record {
   in_order = rises_outside pair packets tied.in_order;
   held = ap (filter (λ (t : Part). not (is_in pair t))) tied.held ∙ sym (keys_outside pair packets);
@@ -266,8 +266,8 @@ nothing_left (pair ∷ pairs) packets q h x =
           (ap (λ (k : Pair). stored_at (packets_outside pair packets) k x) is ∙ nothing_inside pair packets x)
       go rest false p = rest (sym (ap (λ (b : Bool). b || contains pair_cmp pairs q) p) ∙ h)
 
-pub tied_hides_all : (pairs : List Pair) (plan : PlanState) (packets : List Packet) → AreTied plan packets
-    → AreTied (plan_hides pairs plan) (outside_all pairs packets)
+pub tied_hides_all : (pairs : List Pair) (plan : PlanState) (packets : List Packet) → PlanFits plan packets
+    → PlanFits (plan_hides pairs plan) (outside_all pairs packets)
 tied_hides_all [] plan packets tied = tied
 tied_hides_all (pair ∷ pairs) plan packets tied =
     tied_hides_all pairs (uses_room (after_hide pair plan)) (packets_outside pair packets)

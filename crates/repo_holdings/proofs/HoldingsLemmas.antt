@@ -17,8 +17,8 @@ use Rattle.repo_holdings.specs.declared.holdings.stored_parent.StoredParent.{Sto
 use Rattle.repo_catalog.specs.declared.entry.Entry.{Entry}
 use Rattle.repo_catalog.specs.Entries.{EntryList}
 use Rattle.repo_holdings.specs.Records.{Packet}
-use Rattle.repo_holdings.specs.Gaining.{AreTied}
-use Rattle.repo_holdings.specs.Stock.{AreKept, KeepsAll, HaveRoom}
+use Rattle.repo_holdings.specs.Gaining.{PlanFits}
+use Rattle.repo_holdings.specs.Stock.{MatchesEntries, OnlyRoomChanges, HaveRoom}
 use Rattle.repo_holdings.specs.Listed.{listing_at, listed_shape, member_catalogue}
 use Rattle.repo_holdings.specs.StoredParents.{HasParent, IsStoredParent, IsListedBy}
 use Rattle.repo_holdings.specs.HoldingsState.{HoldingsState, held_plan}
@@ -74,7 +74,7 @@ still_lists m h t r is view asked following lists stored =
 -- ---- what stays where room is made
 
 tied_still : (plan now : PlanState) (n : ℕ) (packets stored : List Packet) → now ≡ record plan { spare = n }
-    → stored ≡ packets → AreTied plan packets → AreTied now stored
+    → stored ≡ packets → PlanFits plan packets → PlanFits now stored
 tied_still plan now n packets stored planned same tied = rw (planned, same) (record {
   in_order = tied.in_order;
   held = tied.held;
@@ -83,8 +83,8 @@ tied_still plan now n packets stored planned same tied = rw (planned, same) (rec
   indexed = tied.indexed;
 })
 
-pub kept_still : (old new : Stock) (entries listed : List Entry) → KeepsAll old new → listed ≡ entries
-    → AreKept old entries → AreKept new listed
+pub kept_still : (old new : Stock) (entries listed : List Entry) → OnlyRoomChanges old new → listed ≡ entries
+    → MatchesEntries old entries → MatchesEntries new listed
 kept_still old new entries listed same listed_same kept = record {
   sound = record {
     tied =

@@ -29,7 +29,7 @@ use Rattle.repo_holdings.specs.Listed.{is_withdrawn}
 use Rattle.repo_holdings.specs.StoredParents.{index_count, lists_at, ListsAsMany}
 use Rattle.repo_holdings.specs.Gaining.{KeepsOthers, summary_of, summary_shape, shape_in_summary}
 use Rattle.repo_holdings.specs.Noted.{NotesState}
-use Rattle.repo_holdings.specs.Changing.{withdraws_too, IsSaidNewly}
+use Rattle.repo_holdings.specs.Changing.{withdraws_too, IsNewSummary}
 use Rattle.repo_holdings.specs.NewPublications.{as_parts, with_packets, IsNew, ListInTurn, ArePackets}
 use Rattle.repo_holdings.specs.HoldingsState.{HoldingsState, held_plan}
 use Rattle.repo_holdings.specs.HoldingsFields.{state, IsHoldings}
@@ -365,7 +365,7 @@ module _ (packets after : List Packet) (pair : Pair) (made : List (List ℕ)) (s
   -- the record says it newly
   pub said_published : (notes : NotesState) → Rises part_cmp (keys packets) → Rises part_cmp (keys after)
       → ((q : Pair) → contains pair_cmp notes.withdrawn q ≡ is_withdrawn packets q)
-      → IsSaidNewly pair (Some summary) notes after
+      → IsNewSummary pair (Some summary) notes after
   said_published notes before later were = record {
     summary = publication_stated;
     named = λ none. absurd cc;

@@ -24,7 +24,7 @@ use Rattle.repo_holdings.specs.Listed.{withdraws, is_withdrawn, member_catalogue
 use Rattle.repo_holdings.specs.declared.holdings.stock.Stock.{Stock}
 use Rattle.repo_holdings.specs.Gaining.{IsArrival, IsMissing, summary_of, with_listed}
 use Rattle.repo_holdings.specs.Stock.{IsSound}
-use Rattle.repo_holdings.specs.Changing.{changed, change_by, lists_entry, withdraws_too, IsSaidNewly}
+use Rattle.repo_holdings.specs.Changing.{changed, change_by, lists_entry, withdraws_too, IsNewSummary}
 use Rattle.repo_holdings.proofs.CatalogueLemmas.{relisted, unlisted, same_entry, entry_of_none}
 use Rattle.repo_holdings.proofs.WithdrawnLemmas.{withdrawn_same, withdrawn_more, withdraws_stated}
 use Rattle.repo_holdings.proofs.NotedLemmas.{withdrawal_lists_none}
@@ -196,5 +196,5 @@ module _ (s : Stock) (after : List Packet) (t : Part) (octets : List ℕ) (summa
       before_now sound.noted.withdrawn summary stated_now withdrawn_now
 
   -- this is said newly
-  pub said_now : IsSaidNewly (pair_of t) summary s.notes after
+  pub said_now : IsNewSummary (pair_of t) summary s.notes after
   said_now = record { summary = stated_now; named = named_now; withdrawn = withdrawn_now }

@@ -31,7 +31,7 @@ use Rattle.repo_object.specs.Verdict.{stated_in}
 use Rattle.repo_holdings.specs.Records.{Packet}
 use Rattle.repo_holdings.specs.Listed.{stored_at, listing_in, stated_at, listing_at}
 use Rattle.repo_holdings.specs.StoredParents.{index_count, lists_at, ListsAsMany}
-use Rattle.repo_holdings.specs.Gaining.{AreTied, IsArrival}
+use Rattle.repo_holdings.specs.Gaining.{PlanFits, IsArrival}
 use Rattle.repo_holdings.specs.declared.record_summary.Arrival.{Arrival}
 use Rattle.repo_holdings.specs.declared.record_summary.RecordSummary.{RecordSummary}
 use Rattle.repo_holdings.specs.declared.holdings.stock.Stock.{Stock}
@@ -213,8 +213,8 @@ module _ (old new : Stock) (x : Tried) (was : IsSound old) (now : IsSound new)
 -- ---- one after another
 
 -- a plan is that of what is stored, however often parts were tried
-pub tied_tried : (p : PlanState) (packets : List Packet) (t : Part) (n : ℕ) → AreTied p packets
-    → AreTied (uses_room (with_attempts t n p)) packets
+pub tied_tried : (p : PlanState) (packets : List Packet) (t : Part) (n : ℕ) → PlanFits p packets
+    → PlanFits (uses_room (with_attempts t n p)) packets
 tied_tried p packets t n tied = record {
   in_order = tied.in_order;
   held = held (n == 0) ∙ tied.held;

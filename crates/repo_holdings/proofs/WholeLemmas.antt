@@ -15,7 +15,7 @@ use Rattle.repo_object.specs.Publication.{Listed}
 use Rattle.repo_holdings.specs.Records.{Packet}
 use Rattle.repo_holdings.specs.Listed.{listing_in, listing_at, listed_shape, contents_joined, whole_at, entry_listed}
 use Rattle.repo_holdings.specs.Listed.{entry_of_listing}
-use Rattle.repo_holdings.specs.Gaining.{AreTied}
+use Rattle.repo_holdings.specs.Gaining.{PlanFits}
 use Rattle.repo_holdings.proofs.GainingLemmas.{contains-value, shape_listed, complete_stored, complete_whole}
 use Rattle.repo_holdings.proofs.AskedLemmas.{asked_segment}
 
@@ -25,7 +25,7 @@ pub some_of : {A : Type 0} {P : A → Type 0} {C : Type 0} (o : Option A) → Is
 some_of None h f = absurd h
 some_of (Some x) h f = f x refl h
 
-module _ (plan : PlanState) (packets : List Packet) (pair : Pair) (tied : AreTied plan packets) where
+module _ (plan : PlanState) (packets : List Packet) (pair : Pair) (tied : PlanFits plan packets) where
   whole_of_listed : (l : Listed) → listing_at packets pair ≡ Some l
       → whole_at packets pair ≡ cond (is_complete plan pair) (Some (entry_of_listing packets pair l)) None
   whole_of_listed l h =
@@ -71,7 +71,7 @@ module _ (plan : PlanState) (packets : List Packet) (pair : Pair) (tied : AreTie
       (λ l listed is. subst (λ (o : Option Shape). IsSome o) (sym (shape_listed plan packets pair tied l listed)) refl)
 
 -- a publication of which an asked part is missing is not stored whole
-pub missing_unlisted : (plan : PlanState) (packets : List Packet) (t : Part) → AreTied plan packets
+pub missing_unlisted : (plan : PlanState) (packets : List Packet) (t : Part) → PlanFits plan packets
     → may_be_asked_for plan t ≡ true → holds plan t ≡ false → whole_at packets (pair_of t) ≡ None
 missing_unlisted plan packets t tied asked missing = go (t.part == 0) refl where
   nothing : value_of part_cmp packets t ≡ None

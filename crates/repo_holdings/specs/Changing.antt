@@ -55,7 +55,7 @@ change_by withdrawn pair (Some (Withdrawal seq)) entry =
 
 -- this is newly said of a publication: its stored record says it, or the notes name its object already, and with it the
 -- notes have what is withdrawn
-pub record IsSaidNewly (pair : Pair) (said : Option RecordSummary) (notes : NotesState) (packets : List Packet) : Type 0
+pub record IsNewSummary (pair : Pair) (said : Option RecordSummary) (notes : NotesState) (packets : List Packet) : Type 0
   where
     pub summary : IfSome said (λ x. option_map summary_of (stated_at packets pair) ≡ Some x)
     pub named : said ≡ None → IsSomeAnd (listing_at packets pair)

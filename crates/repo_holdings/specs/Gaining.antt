@@ -22,7 +22,7 @@ use Rattle.repo_holdings.specs.StoredParents.{lists_at, ListsAsMany}
 
 -- a plan holds what is stored, and knows what the stored records say; the record of each stored part is stored, and
 -- each stored index packet lists as many digests as it must
-pub record AreTied (plan : PlanState) (packets : List Packet) : Type 0 where
+pub record PlanFits (plan : PlanState) (packets : List Packet) : Type 0 where
   pub in_order : Rises part_cmp (keys packets)
   pub held : plan.held ≡ keys packets
   pub shapes : plan.shapes ≡ shapes_in packets

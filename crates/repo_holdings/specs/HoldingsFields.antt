@@ -1,7 +1,7 @@
 -- How what is held is kept.
 use Rattle.std.specs.Prelude.{◌≡◌, []}
 use Rattle.repo_holdings.specs.declared.holdings.Holdings.TheInside.{Inside}
-use Rattle.repo_holdings.specs.Stock.{AreKept, HaveRoom}
+use Rattle.repo_holdings.specs.Stock.{MatchesEntries, HaveRoom}
 use Rattle.repo_holdings.specs.HoldingsState.{HoldingsState}
 
 -- what the fields say
@@ -18,7 +18,7 @@ state m = record {
 -- plan, notes and catalogue are those of what is stored, no entry waits to be listed or to be removed, and there is the
 -- room that is spare
 pub record IsHoldings (m : Inside) : Type 0 where
-  pub kept : AreKept m.stock m.catalogue.entries
+  pub kept : MatchesEntries m.stock m.catalogue.entries
   pub room : HaveRoom m.spare m.stock m.pending m.catalogue
   pub none_fresh : m.pending.fresh.items ≡ []
   pub none_gone : m.pending.gone.items ≡ []

@@ -46,8 +46,8 @@ AreInOrder h = Rises part_cmp (keys h.store)
 -- ---- changes
 
 -- a publisher's last number becomes the greater of both
-abbrev pub knows_too : ℕ → ℕ → HoldingsState → HoldingsState
-knows_too publisher seq h =
+abbrev pub with_known_up_to : ℕ → ℕ → HoldingsState → HoldingsState
+with_known_up_to publisher seq h =
     record h { known = slice_set h.known publisher (max (slice_index h.known publisher) seq) }
 
 -- a fetcher claims a part, or nothing

@@ -9,20 +9,20 @@ use Rattle.repo_holdings.specs.declared.holdings.pending.Pending.{Pending}
 use Rattle.repo_holdings.specs.declared.holdings.stock.Stock.{Stock}
 use Rattle.repo_holdings.specs.Listed.{member_catalogue}
 use Rattle.repo_holdings.specs.Noted.{AreNotes}
-use Rattle.repo_holdings.specs.Gaining.{AreTied, shape_in_summary}
+use Rattle.repo_holdings.specs.Gaining.{PlanFits, shape_in_summary}
 
 -- the plan and the notes are those of what is stored
 pub record IsSound (s : Stock) : Type 0 where
-  pub tied : AreTied s.plan s.store.packets
+  pub tied : PlanFits s.plan s.store.packets
   pub noted : AreNotes s.notes s.store.packets
 
 -- they are, and the entries are those of the objects that are stored wholly and not withdrawn
-pub record AreKept (s : Stock) (entries : List Entry) : Type 0 where
+pub record MatchesEntries (s : Stock) (entries : List Entry) : Type 0 where
   pub sound : IsSound s
   pub listed : entries ≡ member_catalogue s.store.packets
 
 -- nothing changed but the room
-pub record KeepsAll (old new : Stock) : Type 0 where
+pub record OnlyRoomChanges (old new : Stock) : Type 0 where
   pub plan : new.plan ≡ record old.plan { spare = new.plan.spare }
   pub store : new.store.packets ≡ old.store.packets
   pub names : new.notes.names ≡ old.notes.names
@@ -45,7 +45,7 @@ pub record HaveRoom (n : ℕ) (s : Stock) (p : Pending) (catalogue : EntryList) 
   pub for_gone : n ≤ vec_capacity p.gone
 
 -- a part is held from now on, with its packet, for which room was used
-pub record HoldsToo (t : Part) (octets : List ℕ) (old new : Stock) : Type 0 where
+pub record AfterHolding (t : Part) (octets : List ℕ) (old new : Stock) : Type 0 where
   pub plan : new.plan ≡ uses_room (after_hold t (shape_in_summary t octets) old.plan)
   pub store : new.store ≡ record { packets = with_packet t octets old.store.packets; spare = old.store.spare - 1 }
   pub notes_room : old.notes.spare ≤ new.notes.spare + 1

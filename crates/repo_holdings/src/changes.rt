@@ -5,8 +5,8 @@ ghost use Rattle.sorted_lists.specs.SortedList.{contains, value_of};
 ghost use Rattle.repo_plan.specs.Parts.{Pair, pair_cmp};
 ghost use Rattle.repo_holdings.specs.Listed.{listing_at, entry_at, is_withdrawn};
 ghost use Rattle.repo_holdings.specs.Contents.{IsDigestIn};
-ghost use Rattle.repo_holdings.specs.Gaining.{AreTied};
-ghost use Rattle.repo_holdings.specs.Changing.{changed, change_by, lists_entry, IsSaidNewly, AreNotedWith};
+ghost use Rattle.repo_holdings.specs.Gaining.{PlanFits};
+ghost use Rattle.repo_holdings.specs.Changing.{changed, change_by, lists_entry, IsNewSummary, AreNotedWith};
 
 use crate::contents::{ContentsDigest, given_or_made};
 use crate::notes::Notes;
@@ -73,8 +73,8 @@ pub(crate) fn change_by_summary(
     digests: &[ContentsDigest],
 ) -> Change
     requires room { 0 < notes.old.spare }
-    requires tied { AreTied plan.now store.now.packets }
-    requires said { IsSaidNewly publication summary notes.old store.now.packets }
+    requires tied { PlanFits plan.now store.now.packets }
+    requires said { IsNewSummary publication summary notes.old store.now.packets }
     requires digests { All (IsDigestIn store.now.packets) digests.now }
     ensures change { result
         ≡ change_by notes.old.withdrawn publication summary (entry_at store.now.packets publication) }
@@ -90,20 +90,20 @@ pub(crate) fn change_by_summary(
         Some(RecordSummary::Object { name, .. }) => notes.note_name(publication, name),
         None => {}
     }
-    let entry = entry_if_whole(plan, store, notes, publication, digests);
+    let entry = take_entry_if_whole(plan, store, notes, publication, digests);
     Change::listing(entry)
 }
 
 // The entry of an object whose name is noted, where its record and every part after it are stored and it is not
 // withdrawn. The name of an object that is stored whole is noted no more.
-fn entry_if_whole(
+fn take_entry_if_whole(
     plan: &Plan,
     store: &Store,
     notes: &mut Notes,
     publication: (u32, u16),
     digests: &[ContentsDigest],
 ) -> Option<Entry>
-    requires tied { AreTied plan.now store.now.packets }
+    requires tied { PlanFits plan.now store.now.packets }
     requires named { IsSomeAnd (listing_at store.now.packets publication)
         (λ l. value_of pair_cmp notes.old.names publication ≡ Some l.name) }
     requires withdrawn { (q : Pair) → contains pair_cmp notes.old.withdrawn q ≡ is_withdrawn store.now.packets q }

@@ -4,8 +4,8 @@ ghost use Rattle.repo_plan.specs.Parts.{part_cmp};
 ghost use Rattle.repo_plan.specs.Sound.{PlanIsSound};
 ghost use Rattle.repo_store.specs.Served.{served};
 ghost use Rattle.repo_holdings.specs.Listed.{member_catalogue};
-ghost use Rattle.repo_holdings.specs.Stock.{HaveRoom, KeepsAll};
-ghost use Rattle.repo_holdings.specs.HoldingsState.{nothing_held, held_plan, knows_too};
+ghost use Rattle.repo_holdings.specs.Stock.{HaveRoom, OnlyRoomChanges};
+ghost use Rattle.repo_holdings.specs.HoldingsState.{nothing_held, held_plan, with_known_up_to};
 
 mod claiming;
 mod counts;
@@ -104,7 +104,7 @@ impl Holdings {
     /// The publisher's publications up to number `seq` are known, besides those that are known already.
     pub fn raise(&mut self, publisher: u32, seq: u16)
         requires { publisher < length self.old.known }
-        ensures { self.new ≡ knows_too publisher seq self.old }
+        ensures { self.new ≡ with_known_up_to publisher seq self.old }
     {
         self.stock.plan.raise(publisher, seq);
     }
@@ -172,7 +172,7 @@ fn make_room(
     ensures room { OnOk result (HaveRoom n stock.new pending.new catalogue.new) }
     ensures still { (k : ℕ) → HaveRoom k stock.old pending.old catalogue.old
         → HaveRoom k stock.new pending.new catalogue.new }
-    ensures stock { KeepsAll stock.old stock.new }
+    ensures stock { OnlyRoomChanges stock.old stock.new }
     ensures fresh { pending.new.fresh.items ≡ pending.old.fresh.items }
     ensures gone { pending.new.gone.items ≡ pending.old.gone.items }
     ensures catalogue { catalogue.new.entries ≡ catalogue.old.entries }

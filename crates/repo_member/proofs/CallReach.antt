@@ -4,7 +4,7 @@ use Rattle.std.proofs.Common.{Ok, Err, refl, sym, ap, ◌∙◌, subst, arith}
 use Rattle.std.specs.Prelude.{◌+◌, ◌<◌, ◌&&◌, not, nat_le, nat_lt, is_ok, is_some, slice_index_or, IfSome, IfOk}
 use Rattle.std.specs.List.{list_any}
 use Rattle.std.proofs.lemmas.Bool.{and_parts, leb-true, ltb-true}
-use Rattle.svs_sync.specs.SyncStates.{SyncState, steady_joined, hears_joined, fired_joined}
+use Rattle.svs_sync.specs.SyncStates.{SyncState, becomes_steady, after_hearing, state_after_firing}
 use Rattle.ndn_data.specs.Data.{Data}
 use Rattle.repo_plan.specs.declared.part.Part.{Part}
 use Rattle.repo_plan.specs.Plan.{claim_of, unclaimed, first}
@@ -24,7 +24,7 @@ use Rattle.repo_member.specs.declared.refusals.AcceptRefusal.{AcceptRefusal}
 use Rattle.repo_member.specs.Groups.{GroupKeys}
 use Rattle.repo_member.specs.MemberState.{MemberState, member_plan, member_publishes, member_learns, member_claims}
 use Rattle.repo_member.specs.MemberState.{member_accepts}
-use Rattle.repo_member.specs.MemberState.{member_ends_claims, member_clears, next_seq, want_of}
+use Rattle.repo_member.specs.MemberState.{member_ends_claims, member_ends_insertions, next_seq, want_of}
 use Rattle.repo_member.specs.Verdicts.{hear_verdict, vector_verdict, passed, claim_verdict, accept_verdict}
 use Rattle.repo_member.specs.Outcomes.{IsCheckedFor}
 use Rattle.repo_member.specs.Commanded.{coded, order_of}
@@ -71,9 +71,9 @@ machine_too : (g : GroupKeys) (a : MemberState) (machine : SyncState) → machin
     → IsReached g (record a { machine = machine })
 machine_too g a machine wide r = reached_with g a a.claims a.attempts machine wide r.sound r
 
-pub fired_wide : (time draw : ℕ) (k : SyncState) → (fired_joined time draw k).members ≡ k.members
+pub fired_wide : (time draw : ℕ) (k : SyncState) → (state_after_firing time draw k).members ≡ k.members
 fired_wide time draw k = go (nat_lt time k.deadline) where
-  go : (b : Bool) → (cond b k (steady_joined time draw k)).members ≡ k.members
+  go : (b : Bool) → (cond b k (becomes_steady time draw k)).members ≡ k.members
   go true = refl
   go false = refl
 
@@ -139,7 +139,7 @@ reached_heard : (g : GroupKeys) (time draw : ℕ) (a : MemberState) (v : Result 
     → ((received : List ℕ) → v ≡ Ok received → CanBeReceived a received) → IsReached g a
     → IsReached g (if_heard time draw a v)
 reached_heard g time draw a (Ok received) can r =
-    let machine = hears_joined time received a.known draw a.machine a.machine.heard in
+    let machine = after_hearing time received a.known draw a.machine a.machine.heard in
     machine_too g (member_learns received a) machine (still_wide time received a.known draw a.machine machine refl)
     (learnt g a received (can received refl) r)
 reached_heard g time draw a (Err refusal) can r = r
@@ -189,7 +189,7 @@ reached_call g (JoinFrom octets) a can r =
 reached_call g (JoinVector received) a can r =
     reached_joined g a (vector_verdict a received) (λ taken p. taken_by a received taken can p) r
 reached_call g (Fire time draw) a can r =
-    machine_too g a (fired_joined time draw a.machine) (fired_wide time draw a.machine) r
+    machine_too g a (state_after_firing time draw a.machine) (fired_wide time draw a.machine) r
 reached_call g (Claim f) a can r = go (claim_of (member_plan a) f) where
   go : (claim : Option Part) → IsReached g (if_claimed f a claim)
   go None =
@@ -215,10 +215,10 @@ reached_call g (CommandChecked octets verdict) a can r =
 reached_call g (Block process index content time draw) a can r =
     reached_blocks g process index content time draw a can r
 reached_call g EndClaims a can r = claims_too g a (member_ends_claims a).claims (sound_end (member_plan a) r.sound) r
-reached_call g (Reset time draw) a can r = machine_too g a (steady_joined time draw a.machine) refl r
+reached_call g (Reset time draw) a can r = machine_too g a (becomes_steady time draw a.machine) refl r
 reached_call g (Restart time draw) a can r =
     let ended = member_ends_claims a in
-    machine_too g (member_clears ended) (steady_joined time draw a.machine) refl
+    machine_too g (member_ends_insertions ended) (becomes_steady time draw a.machine) refl
     (reached_clears g ended (claims_too g a ended.claims (sound_end (member_plan a) r.sound) r))
 reached_call g OrderNames a can r = r
 

@@ -6,7 +6,7 @@ use Rattle.std.specs.List.{All}
 use Rattle.std.proofs.lemmas.Bool.{true≢false, and_parts, not-true}
 use Rattle.std.proofs.lemmas.List.{length-set, length-replicate, get_or-set_same, set-get_or, length_push, take_all}
 use Rattle.std.proofs.lemmas.List.Elements.{All-head, All-tail, All-weaker}
-use Rattle.svs_sync.specs.SyncStates.{SyncState, steady_joined, fired_joined, hears_joined}
+use Rattle.svs_sync.specs.SyncStates.{SyncState, becomes_steady, state_after_firing, after_hearing}
 use Rattle.repo_plan.specs.declared.part.Part.{Part}
 use Rattle.sorted_lists.specs.SortedList.{keys, Rises, value_of}
 use Rattle.repo_plan.specs.Parts.{Pair, part_cmp}
@@ -39,7 +39,7 @@ use Rattle.repo_member.specs.Blocks.{member_block, member_keeps, after_block}
 use Rattle.repo_member.specs.Groups.{GroupKeys}
 use Rattle.repo_member.specs.MemberState.{MemberState, member_plan, member_publishes, member_claims, member_takes}
 use Rattle.repo_holdings.specs.Taking.{Fetched}
-use Rattle.repo_member.specs.MemberState.{member_ends_claims, member_clears}
+use Rattle.repo_member.specs.MemberState.{member_ends_claims, member_ends_insertions}
 use Rattle.repo_member.specs.InGroup.{in_group, AreLogs, GrowInto, AreItsPackets, IsConsistentFetch, asked_for}
 use Rattle.repo_member.specs.InGroup.{parts_fetched}
 use Rattle.repo_holdings.specs.Taking.{with_all_tries}
@@ -172,7 +172,7 @@ hears_consistent g logs received time draw a v t = record {
   sound = sound_learns draw time logs a.number received (in_group a) v t.sound;
   machine =
       still_wide time received a.known draw a.machine
-      (hears_joined time received a.known draw a.machine a.machine.heard)
+      (after_hearing time received a.known draw a.machine a.machine.heard)
       refl
       ∙ t.machine;
   packets = t.packets;
@@ -194,14 +194,14 @@ machine_consistent g logs a machine wide heard t = record {
 
 pub fires_consistent : FiresConsistent
 fires_consistent g logs time draw a t =
-    machine_consistent g logs a (fired_joined time draw a.machine) (fired_wide time draw a.machine)
+    machine_consistent g logs a (state_after_firing time draw a.machine) (fired_wide time draw a.machine)
     (go (nat_lt time a.machine.deadline)) t where
-      go : (b : Bool) → HeardConsistently logs (cond b a.machine (steady_joined time draw a.machine)).heard
+      go : (b : Bool) → HeardConsistently logs (cond b a.machine (becomes_steady time draw a.machine)).heard
       go true = t.sound.heard
       go false = tt
 
 pub resets_consistent : ResetsConsistent
-resets_consistent g logs time draw a t = machine_consistent g logs a (steady_joined time draw a.machine) refl tt t
+resets_consistent g logs time draw a t = machine_consistent g logs a (becomes_steady time draw a.machine) refl tt t
 
 -- ---- commands and blocks
 
@@ -307,7 +307,7 @@ ends_claims_consistent g logs a t = record {
 pub restarts_consistent : RestartsConsistent
 restarts_consistent g logs time draw a t =
     let ended = member_ends_claims a in
-    resets_consistent g logs time draw (member_clears ended)
+    resets_consistent g logs time draw (member_ends_insertions ended)
     (inserts_consistent g logs (record a.insertions { processes = [] }) ended (ends_claims_consistent g logs a t))
 
 pub loses_consistent : LosesConsistent

@@ -8,7 +8,7 @@ use Rattle.svs_sync.specs.declared.fired.Fired.{Fired}
 use Rattle.svs_sync.specs.declared.fired.Fired.TheVariants.{Early, Quiet, Send}
 use Rattle.svs_vector.specs.Vectors.{covers, join_all}
 use Rattle.svs_vector.proofs.JoinLemmas.{join-[], join_assoc, join_all_same}
-use Rattle.svs_sync.specs.SyncStates.{steady_joined, due_joined, fires_joined}
+use Rattle.svs_sync.specs.SyncStates.{becomes_steady, when_due, when_fired}
 use Rattle.repo_plan.specs.declared.part.Part.{Part}
 use Rattle.sorted_lists.specs.SortedList.{keys, contains, Rises}
 use Rattle.repo_plan.specs.Parts.{part_cmp}
@@ -86,10 +86,10 @@ hear_is_event env w j sync a is =
       go false = changed w j a is (group.learns (drawn env w j) w.time sync.vector)
 
 fires_alike : (time draw : ℕ) (a : MemberState)
-    → in_group (member_fires time draw a) ≡ after_timer (fires_joined time a.known a.machine) draw time (in_group a)
+    → in_group (member_fires time draw a) ≡ after_timer (when_fired time a.known a.machine) draw time (in_group a)
 fires_alike time draw a = go (nat_lt time a.machine.deadline) where
   due : (heard : Option (List ℕ))
-      → group.resets draw time (in_group a) ≡ after_timer (due_joined a.known heard) draw time (in_group a)
+      → group.resets draw time (in_group a) ≡ after_timer (when_due a.known heard) draw time (in_group a)
   due None = refl
   due (Some vector) = covered (covers vector a.known) where
     covered : (b : Bool)
@@ -98,15 +98,15 @@ fires_alike time draw a = go (nat_lt time a.machine.deadline) where
     covered false = refl
 
   go : (b : Bool)
-      → in_group (record a { machine = cond b a.machine (steady_joined time draw a.machine) })
-      ≡ after_timer (cond b Early (due_joined a.known a.machine.heard)) draw time (in_group a)
+      → in_group (record a { machine = cond b a.machine (becomes_steady time draw a.machine) })
+      ≡ after_timer (cond b Early (when_due a.known a.machine.heard)) draw time (in_group a)
   go true = refl
   go false = due a.machine.heard
 
 pub fire_is_event : FireIsEvent
 fire_is_event env w j a is =
     go (timer_at w j)
-    ∙ ap (λ (m : Member). after_timer (fires_joined w.time m.known m.machine) (drawn env w j) w.time m) is.same
+    ∙ ap (λ (m : Member). after_timer (when_fired w.time m.known m.machine) (drawn env w j) w.time m) is.same
     ∙ sym (fires_alike w.time (drawn env w j) a) where
       go : (x : Fired) → member (after_fire env w j x) j ≡ after_timer x (drawn env w j) w.time (member w j)
       go Early = refl

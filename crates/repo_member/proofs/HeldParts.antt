@@ -44,7 +44,7 @@ use Rattle.repo_member.specs.MemberState.{MemberState, IsMemberState, ArePosts, 
 use Rattle.repo_member.specs.MemberState.{logged}
 use Rattle.repo_holdings.specs.Wanting.{nothing_listed, want_after}
 use Rattle.repo_member.specs.MemberState.{want_of, member_learns}
-use Rattle.repo_holdings.specs.Gaining.{AreTied, shape_in_summary}
+use Rattle.repo_holdings.specs.Gaining.{PlanFits, shape_in_summary}
 use Rattle.repo_holdings.proofs.CatalogueLemmas.{fun_ext}
 use Rattle.repo_holdings.proofs.GainingLemmas.{stated_shape_is, shape_stored}
 use Rattle.repo_member.specs.Blocks.{AreWithinLimits}
@@ -65,7 +65,7 @@ pub record IsReached (g : GroupKeys) (a : MemberState) : Type 0 where
   pub of : IsOfGroup g a
   pub sound : PlanIsSound (member_plan a)
   pub few : length a.log ≤ 65535
-  pub tied : AreTied (member_plan a) a.store
+  pub tied : PlanFits (member_plan a) a.store
   pub posts : ArePosts a.log
   pub own : (t : Part) → t.publisher ≡ a.number → hides (member_plan a) (pair_of t) ≡ false
       → value_of part_cmp a.store t ≡ logged g a t
@@ -341,7 +341,7 @@ want_same g old new t h =
     ap (want_from g t) (fun_ext (stored_at new (pair_of t)) (stored_at old (pair_of t)) h)
 
 -- so the want of a part that could be asked for stays the same
-pub want_stays : (g : GroupKeys) (a : MemberState) (new : List Packet) (t : Part) → AreTied (member_plan a) a.store
+pub want_stays : (g : GroupKeys) (a : MemberState) (new : List Packet) (t : Part) → PlanFits (member_plan a) a.store
     → StaysStored a.store new → may_be_asked_for (member_plan a) t ≡ true → want_of g new t ≡ want_of g a.store t
 want_stays g a new t tied stays asked = go (t.part == 0) refl where
   after : List Packet → Listed → WantedPart

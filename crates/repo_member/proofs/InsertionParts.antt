@@ -23,7 +23,7 @@ use Rattle.repo_process.specs.Processes.{with_block, object_of, closed, with_it,
 use Rattle.repo_process.specs.Processes.BlockState.{Unknown, Already, Waiting, Whole}
 use Rattle.repo_process.specs.Insertions.{Insertions, next_number, starts, with_process}
 use Rattle.repo_member.specs.Groups.{GroupKeys}
-use Rattle.repo_member.specs.MemberState.{MemberState, member_publishes, member_clears}
+use Rattle.repo_member.specs.MemberState.{MemberState, member_publishes, member_ends_insertions}
 use Rattle.repo_member.specs.Commanded.{order_of, member_state_starts, member_obeys, member_after_order}
 use Rattle.repo_member.specs.Blocks.{IsWithinLimits, AreWithinLimits, member_block, member_keeps, after_block}
 use Rattle.repo_member.specs.Blocks.{member_blocks}
@@ -242,5 +242,5 @@ reached_blocks g process index content time draw a is r = go (member_block a pro
       publishes p (comes_within processes process index content p true is r.insertions comes) comes.has_all
       (nat_lt (length a.log) 65535) refl
 
-pub reached_clears : (g : GroupKeys) (a : MemberState) → IsReached g a → IsReached g (member_clears a)
+pub reached_clears : (g : GroupKeys) (a : MemberState) → IsReached g a → IsReached g (member_ends_insertions a)
 reached_clears g a r = reached_insertions g a (record a.insertions { processes = [] }) (λ number p found. absurd cc) r

@@ -12,7 +12,7 @@ use Rattle.repo_plan.specs.declared.plan.claims.FetcherIdle.{FetcherIdle}
 use Rattle.svs_vector.specs.Vectors.{join, covers}
 use Rattle.svs_vector.proofs.JoinLemmas.{length-join, join-at}
 use Rattle.svs_sync.specs.Suppression.{suppression}
-use Rattle.svs_sync.specs.SyncStates.{SyncState, steady_joined, hears_joined}
+use Rattle.svs_sync.specs.SyncStates.{SyncState, becomes_steady, after_hearing}
 use Rattle.repo_plan.specs.Plan.{PlanState}
 use Rattle.repo_member.specs.declared.member.Member.TheInside.{Inside}
 use Rattle.repo_holdings.specs.Listed.{listing_at, listed_shape}
@@ -50,18 +50,18 @@ reading f m a is view = ap f (plan_is m is) ∙ ap (λ (x : MemberState). f (mem
 -- ---- what is learnt
 
 hears_members : (now : ℕ) (received known : List ℕ) (draw : ℕ) (k : SyncState) (heard : Option (List ℕ))
-    → (hears_joined now received known draw k heard).members ≡ k.members
+    → (after_hearing now received known draw k heard).members ≡ k.members
 hears_members now received known draw k (Some vector) = refl
 hears_members now received known draw k None = go (covers received known) where
   go : (b : Bool)
-      → (cond b (steady_joined now draw k)
+      → (cond b (becomes_steady now draw k)
       (record k { heard = Some received; deadline = now + suppression draw; draws = k.draws + 1 })).members
       ≡ k.members
   go true = refl
   go false = refl
 
 pub still_wide : (now : ℕ) (received known : List ℕ) (draw : ℕ) (k new : SyncState)
-    → new ≡ hears_joined now received known draw k k.heard → new.members ≡ k.members
+    → new ≡ after_hearing now received known draw k k.heard → new.members ≡ k.members
 still_wide now received known draw k new is =
     ap (λ (x : SyncState). x.members) is ∙ hears_members now received known draw k k.heard
 

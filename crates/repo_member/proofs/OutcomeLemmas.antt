@@ -44,7 +44,7 @@ use Rattle.repo_holdings.specs.declared.record_summary.Arrival.{Arrival}
 use Rattle.repo_member.specs.Members.{member_state, IsMember}
 use Rattle.repo_member.specs.declared.member.Member.TheInside.{Inside}
 use Rattle.repo_holdings.specs.declared.holdings.taking.Tried.{Tried}
-use Rattle.repo_member.specs.Outcomes.{IsJobOf, AreFetchedOf, WereTried, HolderJobsArePlanned, RisingJobsArePlanned}
+use Rattle.repo_member.specs.Outcomes.{IsJobOf, AreFetchedOf, WereChecked, HolderJobsArePlanned, RisingJobsArePlanned}
 use Rattle.repo_member.specs.Outcomes.{JobsArePlanned, PlannedJobsAreOutcomes, IsOutcome, outcome_of, IsFetched}
 use Rattle.repo_member.specs.Outcomes.{AreFetched, HolderJobsAreOutcomes}
 use Rattle.repo_member.specs.ConsistentHolders.{MembersTakeAll}
@@ -385,7 +385,7 @@ holder_jobs_are_planned g h after most have of =
     (filter_passes (is_unclaimed (held_plan h)) (known_parts (held_plan h)))))
 
 all_fetched : (g : GroupKeys) (h : HoldingsState) (jobs : List Job) (parts : List (Option CheckedPart)) (ns : List ℕ)
-    → All (IsJobOf g h) jobs → WereTried g jobs parts ns → AreFetchedOf g h jobs parts ns
+    → All (IsJobOf g h) jobs → WereChecked g jobs parts ns → AreFetchedOf g h jobs parts ns
 all_fetched g h [] [] [] each were = tt
 all_fetched g h [] [] (n ∷ ns) each were = were
 all_fetched g h [] (part ∷ parts) ns each were = were

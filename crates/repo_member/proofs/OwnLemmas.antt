@@ -35,7 +35,7 @@ use Rattle.repo_holdings.specs.Listed.{listing_in, object_stated}
 use Rattle.repo_holdings.specs.StoredParents.{index_count, ListsAsMany}
 use Rattle.repo_holdings.specs.Gaining.{summary_of, summary_shape}
 use Rattle.repo_member.specs.MemberState.{MemberState, member_plan, logged, packet_in}
-use Rattle.repo_holdings.specs.HoldingsState.{HoldingsState, held_plan, knows_too, AreInOrder}
+use Rattle.repo_holdings.specs.HoldingsState.{HoldingsState, held_plan, with_known_up_to, AreInOrder}
 use Rattle.repo_holdings.specs.NewPublications.{IsNew, ArePackets, ListInTurn}
 use Rattle.repo_member.specs.Posts.{posts_of, IsKeptLog}
 use Rattle.repo_member.specs.Members.{member_state, AreWaiting, IsMember}
@@ -198,7 +198,7 @@ next_to_last p number last sound inside own hidden = record {
 
 -- such is a member's next publication
 pub next_is_new : (m : Inside) (held : HoldingsState) (n log : ℕ) → IsMember m → PlanIsSound (held_plan m.held)
-    → log ≡ length (posts_of m.log.items) → held ≡ knows_too m.number (log + 1) (record m.held { spare = n })
+    → log ≡ length (posts_of m.log.items) → held ≡ with_known_up_to m.number (log + 1) (record m.held { spare = n })
     → IsNew (held_plan held) (m.number, log + 1)
 next_is_new m held n log is sound long raised =
     let seq = log + 1 in

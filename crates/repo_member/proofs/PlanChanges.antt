@@ -19,7 +19,7 @@ use Rattle.group_model.specs.Member.{with_tries}
 use Rattle.repo_holdings.specs.declared.record_summary.RecordSummary.{RecordSummary}
 use Rattle.repo_object.specs.Publication.{shape_stated}
 use Rattle.repo_holdings.specs.StoredParents.{lists_at, ListsAsMany}
-use Rattle.repo_holdings.specs.Gaining.{AreTied, summary_shape, shape_in_summary}
+use Rattle.repo_holdings.specs.Gaining.{PlanFits, summary_shape, shape_in_summary}
 use Rattle.repo_holdings.specs.NewPublications.{as_parts, with_packets, IsNew}
 use Rattle.repo_holdings.proofs.GainingLemmas.{stated_shape_is, tied_too, others_kept}
 use Rattle.repo_holdings.proofs.AskedLemmas.{stated_sized}
@@ -87,11 +87,11 @@ received_is_shape t octets =
       go true (Some says) p = stated_sized octets says p
       go false o p = tt
 
-module _ (a : MemberState) (t : Part) (octets : List ℕ) (tied : AreTied (member_plan a) a.store)
+module _ (a : MemberState) (t : Part) (octets : List ℕ) (tied : PlanFits (member_plan a) a.store)
     (fresh : holds (member_plan a) t ≡ false) (asked : may_be_asked_for (member_plan a) t ≡ true)
     (received : is_some (shape_in_summary t octets) ≡ (t.part == 0))
     (lists : ListsAsMany octets (lists_at a.store t)) where
-  all_tied : AreTied (after_hold t (shape_in_summary t octets) (member_plan a)) (with_packet t octets a.store)
+  all_tied : PlanFits (after_hold t (shape_in_summary t octets) (member_plan a)) (with_packet t octets a.store)
   all_tied = tied_too (member_plan a) a.store t octets (shape_in_summary t octets) tied fresh asked received refl lists
 
   pub plan_gained : member_plan (gains t octets a)
@@ -111,7 +111,7 @@ module _ (a : MemberState) (t : Part) (octets : List ℕ) (tied : AreTied (membe
         spare_gained true = refl
         spare_gained false = refl
 
-  pub tied_gained : AreTied (member_plan (gains t octets a)) (with_packet t octets a.store)
+  pub tied_gained : PlanFits (member_plan (gains t octets a)) (with_packet t octets a.store)
   tied_gained = record {
     in_order = all_tied.in_order;
     held = refl;
@@ -155,10 +155,10 @@ pub sound_puts : (start : PlanState) (pair : Pair) (received : RecordSummary) (l
     → IsShape (summary_shape received)
     → IsNew start pair
     → (x : ℕ) (made : List (List ℕ)) (a : MemberState) → x + length made ≡ last_part (summary_shape received) + 1
-    → AreRemaining received l pair x made a.store → AreTied (member_plan a) a.store
+    → AreRemaining received l pair x made a.store → PlanFits (member_plan a) a.store
     → HasGained start (member_plan a) pair (summary_shape received) x → PlanIsSound (member_plan a)
     → PlanIsSound (member_plan (record a { store = with_packets (as_parts pair x made) a.store }))
-    × AreTied (member_plan (record a { store = with_packets (as_parts pair x made) a.store }))
+    × PlanFits (member_plan (record a { store = with_packets (as_parts pair x made) a.store }))
     (with_packets (as_parts pair x made) a.store)
 sound_puts start pair received l sized new x [] a count come tied so_far s = (s, tied)
 sound_puts start pair received l sized new x (octets ∷ made) a count come tied so_far s =

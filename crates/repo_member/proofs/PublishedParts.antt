@@ -19,7 +19,7 @@ use Rattle.repo_object.specs.Wants.{WantedPart}
 use Rattle.repo_object.specs.Verdict.{ring_verdict}
 use Rattle.ndn_packet.proofs.Ends.{slice_get-push}
 use Rattle.repo_holdings.specs.declared.record_summary.RecordSummary.{RecordSummary}
-use Rattle.repo_holdings.specs.Gaining.{AreTied, summary_of, summary_shape}
+use Rattle.repo_holdings.specs.Gaining.{PlanFits, summary_of, summary_shape}
 use Rattle.repo_store.specs.StoreList.{with_packet}
 use Rattle.repo_holdings.specs.Records.{Packet}
 use Rattle.repo_member.specs.Groups.{GroupKeys, publisher_at}
@@ -120,7 +120,7 @@ module _ (g : GroupKeys) (post : Post) (time draw : ℕ) (a : MemberState) (is_p
       (next_to_last (member_plan a) a.number (length a.log) r.sound r.member_state.member r.member_state.own
       (r.member_state.hidden pair))
 
-  received_tied : AreTied (member_plan received) a.store
+  received_tied : PlanFits (member_plan received) a.store
   received_tied = record {
     in_order = r.tied.in_order;
     held = refl;
@@ -130,7 +130,7 @@ module _ (g : GroupKeys) (post : Post) (time draw : ℕ) (a : MemberState) (is_p
   }
 
   all_sound : PlanIsSound (member_plan (record received { store = after }))
-      × AreTied (member_plan (record received { store = after })) after
+      × PlanFits (member_plan (record received { store = after })) after
   all_sound =
       let are =
       packets_are by (next_seq a) (is_publisher g a.number r.group (omega (arith, r.member_state.member, r.of)))

@@ -6,7 +6,7 @@ use Rattle.std.specs.List.{All}
 use Rattle.svs_vector.specs.Vectors.{join}
 use Rattle.svs_sync.specs.declared.fired.Fired.{Fired}
 use Rattle.svs_sync.specs.declared.fired.Fired.TheVariants as fired
-use Rattle.svs_sync.specs.SyncStates.{fires_joined}
+use Rattle.svs_sync.specs.SyncStates.{when_fired}
 use Rattle.repo_plan.specs.declared.part.Part.{Part}
 use Rattle.repo_plan.specs.Parts.{part_cmp, pair_of}
 use Rattle.sorted_lists.specs.SortedList.{keys, contains, value_of, Rises}
@@ -88,7 +88,7 @@ after_timer fired.Send draw time m = group.resets draw time m
 abbrev pub FiresAlike : Type 0
 FiresAlike = (time draw : ℕ) (a : MemberState)
     → in_group (member_fires time draw a)
-    ≡ after_timer (fires_joined time (in_group a).known (in_group a).machine) draw time (in_group a)
+    ≡ after_timer (when_fired time (in_group a).known (in_group a).machine) draw time (in_group a)
 
 -- A fetcher claims a part, or nothing.
 abbrev pub ClaimsAlike : Type 0

@@ -3,7 +3,7 @@ use Rattle.std.specs.Prelude.{◌≡◌, ℕ, ◌+◌, ◌-◌, ◌<◌, true, L
 use Rattle.std.specs.Prelude.{slice_set, slice_index, replicate, ◌==◌, if◌then◌else◌}
 use Rattle.std.specs.Option.{option_and_then}
 use Rattle.svs_vector.specs.Vectors.{join}
-use Rattle.svs_sync.specs.SyncStates.{SyncState, steady_joined, hears_joined, fired_joined}
+use Rattle.svs_sync.specs.SyncStates.{SyncState, becomes_steady, after_hearing, state_after_firing}
 use Rattle.svs_sync.specs.Suppression.{periodic}
 use Rattle.repo_plan.specs.declared.part.Part.{Part}
 use Rattle.repo_plan.specs.Parts.{Pair, part_cmp}
@@ -106,7 +106,7 @@ member_publishes g post time draw a = record a {
   log = a.log ++ post ∷ [];
   known = slice_set a.known a.number (next_seq a);
   store = with_packets (new_packets g post a) a.store;
-  machine = steady_joined time draw a.machine;
+  machine = becomes_steady time draw a.machine;
 }
 
 -- the packet of an own part that was published, whether it is still stored or not
@@ -130,11 +130,11 @@ member_learns received a = record a { known = join a.known received }
 -- the sync state hears the vector while the member still knows the one before
 abbrev pub member_hears : List ℕ → ℕ → ℕ → MemberState → MemberState
 member_hears received time draw a =
-    record (member_learns received a) { machine = hears_joined time received a.known draw a.machine a.machine.heard }
+    record (member_learns received a) { machine = after_hearing time received a.known draw a.machine a.machine.heard }
 
 -- The member's timer is asked at this time, in milliseconds.
 abbrev pub member_fires : ℕ → ℕ → MemberState → MemberState
-member_fires time draw a = record a { machine = fired_joined time draw a.machine }
+member_fires time draw a = record a { machine = state_after_firing time draw a.machine }
 
 -- ---- fetching
 
@@ -169,12 +169,12 @@ member_ends_claims a = record a { claims = no_claims }
 
 -- The member's sync state is Steady from this time on.
 abbrev pub member_resets : ℕ → ℕ → MemberState → MemberState
-member_resets time draw a = record a { machine = steady_joined time draw a.machine }
+member_resets time draw a = record a { machine = becomes_steady time draw a.machine }
 
 -- Insertion processes end, and their numbers go on.
-abbrev pub member_clears : MemberState → MemberState
-member_clears a = record a { insertions = record a.insertions { processes = [] } }
+abbrev pub member_ends_insertions : MemberState → MemberState
+member_ends_insertions a = record a { insertions = record a.insertions { processes = [] } }
 
 -- The member starts again: claims and insertion processes end, and its sync state is Steady.
 abbrev pub member_restarts : ℕ → ℕ → MemberState → MemberState
-member_restarts time draw a = member_resets time draw (member_clears (member_ends_claims a))
+member_restarts time draw a = member_resets time draw (member_ends_insertions (member_ends_claims a))

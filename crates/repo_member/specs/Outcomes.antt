@@ -101,11 +101,11 @@ abbrev pub jobs_after : GroupKeys → MemberState → Option Part → ℕ → Li
 jobs_after g a after most = jobs_of g (member_holdings a) after most
 
 -- the results of jobs were checked for them, and none was tried too often
-abbrev pub WereTried : GroupKeys → List Job → List (Option CheckedPart) → List ℕ → Type 0
-WereTried g [] [] [] = Unit {0}
-WereTried g (job ∷ jobs) (part ∷ parts) (n ∷ ns) =
-    IfSome part (IsCheckedFor g job.want) × (job.base + n < 2097152) × WereTried g jobs parts ns
-WereTried g _ _ _ = ⊥
+abbrev pub WereChecked : GroupKeys → List Job → List (Option CheckedPart) → List ℕ → Type 0
+WereChecked g [] [] [] = Unit {0}
+WereChecked g (job ∷ jobs) (part ∷ parts) (n ∷ ns) =
+    IfSome part (IsCheckedFor g job.want) × (job.base + n < 2097152) × WereChecked g jobs parts ns
+WereChecked g _ _ _ = ⊥
 
 -- those jobs are planned
 abbrev pub HolderJobsArePlanned : Type 0
@@ -121,7 +121,7 @@ RisingJobsArePlanned = (g : GroupKeys) (h : HoldingsState) (ts : List Part) → 
 -- any result of planned jobs can be taken
 abbrev pub HolderJobsAreOutcomes : Type 0
 HolderJobsAreOutcomes = (g : GroupKeys) (h : HoldingsState) (jobs : List Job) (parts : List (Option CheckedPart))
-    (attempts : List ℕ) → AreJobsOf g h jobs → WereTried g jobs parts attempts → IsOutcomeOf g h jobs parts attempts
+    (attempts : List ℕ) → AreJobsOf g h jobs → WereChecked g jobs parts attempts → IsOutcomeOf g h jobs parts attempts
 
 -- so are those of a member
 abbrev pub JobsArePlanned : Type 0
@@ -131,4 +131,4 @@ JobsArePlanned = (g : GroupKeys) (a : MemberState) (after : Option Part) (most :
 -- and any result of them it can take
 abbrev pub PlannedJobsAreOutcomes : Type 0
 PlannedJobsAreOutcomes = (g : GroupKeys) (a : MemberState) (jobs : List Job) (parts : List (Option CheckedPart))
-    (attempts : List ℕ) → ArePlannedJobs g a jobs → WereTried g jobs parts attempts → IsOutcome g a jobs parts attempts
+    (attempts : List ℕ) → ArePlannedJobs g a jobs → WereChecked g jobs parts attempts → IsOutcome g a jobs parts attempts

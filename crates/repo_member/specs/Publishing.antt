@@ -1,7 +1,7 @@
 -- What is to be published, and what publishing answers.
 use Rattle.std.specs.Prelude.{◌≡◌, ◌<◌, ◌^◌, ℕ, List, [], ◌∷◌, ◌++◌, Vec, length, slice_set}
 use Rattle.std.specs.Global.{Global}
-use Rattle.svs_sync.specs.SyncStates.{steady_joined}
+use Rattle.svs_sync.specs.SyncStates.{becomes_steady}
 use Rattle.repo_object.specs.Objects.{Post, IsPost}
 use Rattle.repo_object.specs.Publication.{packets}
 use Rattle.repo_holdings.specs.declared.record_summary.RecordSummary.{RecordSummary}
@@ -25,7 +25,7 @@ publishes_packets post made time draw a = record a {
   log = a.log ++ post ∷ [];
   known = slice_set a.known a.number (next_seq a);
   store = with_packets (as_parts (a.number, next_seq a) 0 made) a.store;
-  machine = steady_joined time draw a.machine;
+  machine = becomes_steady time draw a.machine;
 }
 
 -- the time and the number of the sync state's draws are so small that 64 bits hold them after a change

@@ -2,7 +2,7 @@ ghost use Rattle.std.specs.Prelude.{◌<◌, map, length, string_bytes};
 ghost use Rattle.std.specs.List.{All};
 ghost use Rattle.script_report.specs.Pieces.{Appends};
 ghost use Rattle.bench_world.specs.EventValues.{report_value};
-ghost use Rattle.bench_world.specs.Steps.{NamesAll};
+ghost use Rattle.bench_world.specs.Steps.{NamesInRange};
 ghost use Rattle.script_story.specs.ReportTexts.{listing_text, news_text, of_commands, of_group, of_insertions};
 ghost use Rattle.script_story.specs.ReportTexts.{of_packets, of_parts, report_text_if, report_text};
 
@@ -29,7 +29,7 @@ pub(crate) fn put_event_report(
     labels: &[String],
     happened: &Happened,
 ) -> Result<(), AllocError>
-    requires all { NamesAll (length labels.now) (report_value happened.now) }
+    requires all { NamesInRange (length labels.now) (report_value happened.now) }
     ensures { Appends (report_text (map string_bytes labels.now) (report_value happened.now))
         report.old.items report.new.items result }
 {
@@ -66,7 +66,7 @@ fn put_of_group(
     labels: &[String],
     happened: &Happened,
 ) -> Result<(), AllocError>
-    requires all { NamesAll (length labels.now) (report_value happened.now) }
+    requires all { NamesInRange (length labels.now) (report_value happened.now) }
     ensures { Appends (report_text_if of_group (map string_bytes labels.now) (report_value happened.now))
         report.old.items report.new.items result }
 {
@@ -103,7 +103,7 @@ fn put_of_parts(
     labels: &[String],
     happened: &Happened,
 ) -> Result<(), AllocError>
-    requires all { NamesAll (length labels.now) (report_value happened.now) }
+    requires all { NamesInRange (length labels.now) (report_value happened.now) }
     ensures { Appends (report_text_if of_parts (map string_bytes labels.now) (report_value happened.now))
         report.old.items report.new.items result }
 {
@@ -149,7 +149,7 @@ fn put_of_packets(
     labels: &[String],
     happened: &Happened,
 ) -> Result<(), AllocError>
-    requires all { NamesAll (length labels.now) (report_value happened.now) }
+    requires all { NamesInRange (length labels.now) (report_value happened.now) }
     ensures { Appends (report_text_if of_packets (map string_bytes labels.now) (report_value happened.now))
         report.old.items report.new.items result }
 {
@@ -190,7 +190,7 @@ fn put_of_insertions(
     labels: &[String],
     happened: &Happened,
 ) -> Result<(), AllocError>
-    requires all { NamesAll (length labels.now) (report_value happened.now) }
+    requires all { NamesInRange (length labels.now) (report_value happened.now) }
     ensures { Appends (report_text_if of_insertions (map string_bytes labels.now) (report_value happened.now))
         report.old.items report.new.items result }
 {
@@ -239,7 +239,7 @@ fn put_of_commands(
     labels: &[String],
     happened: &Happened,
 ) -> Result<(), AllocError>
-    requires all { NamesAll (length labels.now) (report_value happened.now) }
+    requires all { NamesInRange (length labels.now) (report_value happened.now) }
     ensures { Appends (report_text_if of_commands (map string_bytes labels.now) (report_value happened.now))
         report.old.items report.new.items result }
 {

@@ -33,7 +33,7 @@ use Rattle.script_lang.proofs.Parties.{any_within}
 use Rattle.repo_member.specs.Groups.{IsPlainNodeName, IsKey}
 use Rattle.repo_member.proofs.PublicLaws.{above_digests, object_name}
 use Rattle.bench_world.specs.EventValues.{EventValue}
-use Rattle.bench_world.specs.Steps.{IsReady, NamesClient}
+use Rattle.bench_world.specs.Steps.{EventInRange, NamesClient}
 use Rattle.script_story.specs.StatedEvents.{mirror_number, party_number, stated_by, stated_event}
 use Rattle.script_story.proofs.ReadNames.{read_name_valid}
 
@@ -86,7 +86,7 @@ few_pieces size content some short =
 
 -- The members and the client that an event names are there, and what is said is within its limits.
 abbrev pub Fits : Declared → EventValue → Type 0
-Fits d v = IsReady (length d.members) v × NamesClient (length d.clients) v
+Fits d v = EventInRange (length d.members) v × NamesClient (length d.clients) v
 
 -- The members and clients are the same, as they are before and after an event.
 pub record SameParties (d e : Declared) : Type 0 where
@@ -330,7 +330,7 @@ fits_some d o v is h = let P : Option EventValue → Type 0 = λ x. IfSome x (Fi
 -- An event that a line states, which is taken, can be carried out.
 pub event_fits : (octets : List ℕ) (d e : Declared) (s : Stated) (v : EventValue) → line_of octets ≡ Ok (Some s)
     → after_line d s ≡ Ok e → stated_event e s ≡ Some v
-    → IsReady (length e.members) v × NamesClient (length e.clients) v
+    → EventInRange (length e.members) v × NamesClient (length e.clients) v
 event_fits octets d e s v read after accepted =
     let text : IsLineText s octets = (line_texts s octets).0 read in
     let k = event_taken s.verb d e s s.values v after accepted in

@@ -34,7 +34,7 @@ use Rattle.script_lang.specs.Checking.{party_label}
 use Rattle.script_lang.proofs.LineTexts.{line_texts}
 use Rattle.script_lang.proofs.Parties.{nobody_has}
 use Rattle.bench_world.specs.EventValues.{EventValue, group_event}
-use Rattle.bench_world.specs.Steps.{IsReady}
+use Rattle.bench_world.specs.Steps.{EventInRange}
 use Rattle.bench_world.proofs.EventRuns.{named_ready}
 use Rattle.repo_watch.specs.Laws.{after_watch_call}
 use Rattle.script_story.specs.Mirrors.{mirror_begins}
@@ -112,7 +112,7 @@ valid_event octets d s e read says_it =
     valid_some (stated_event d s) e says_it
     (valid_by s.verb d s.values (written (form s.verb).kinds s.values text.words text.texts) text.ranges)
 
-brings_within : (g : GroupKeys) (n : ℕ) (e : EventValue) → IsReady n e → NamesAreValid e
+brings_within : (g : GroupKeys) (n : ℕ) (e : EventValue) → EventInRange n e → NamesAreValid e
     → BringsWithin (group_event g e)
 brings_within g n (EventValue.Publish m name size content) ready valid = record {
   name = valid;

@@ -15,7 +15,7 @@ use Rattle.group_model.specs.World.{Environment, World, catalogue_at, logs}
 use Rattle.group_model.specs.Refusals as group
 use Rattle.group_model.proofs.Parts.{in_published, in_range}
 use Rattle.bench_world.specs.EventValues.{EventValue, event_report}
-use Rattle.bench_world.specs.Steps.{NamesAll}
+use Rattle.bench_world.specs.Steps.{NamesInRange}
 use Rattle.bench_world.proofs.Names.{names_all}
 use Rattle.bench_world.proofs.NextParts.{all_from_in}
 use Rattle.script_lang.specs.declared.line_fault.LineFault.{LineFault}
@@ -113,11 +113,11 @@ module _ (env : RunEnvironment) (s : State) (sound : IsSoundState env s) (line :
       let count : length d.members ≡ length s.declared.members =
       ap (λ (x : Declared). length x.members) declares.is in
       let fits = event_fits line s.declared d stated e read_as after acts.1 in
-      let all : NamesAll (length d.members) (event_report s.keys out w e) =
+      let all : NamesInRange (length d.members) (event_report s.keys out w e) =
       names_all (length d.members) s.keys out w (sound.names ∙ sym count) (sound.many ∙ sym count) sound.sound e
       fits.0 in
-      let labelled : NamesAll (length (map party_label d.members)) (event_report s.keys out w e) =
-      subst (λ (n : ℕ). NamesAll n (event_report s.keys out w e)) (sym (length-map d.members party_label)) all in
+      let labelled : NamesInRange (length (map party_label d.members)) (event_report s.keys out w e) =
+      subst (λ (n : ℕ). NamesInRange n (event_report s.keys out w e)) (sym (length-map d.members party_label)) all in
       subst (λ (x : State). Tells x report) (sym acts.2.next)
       (tells (event_report s.keys out w e) acts.2.text labelled)
 

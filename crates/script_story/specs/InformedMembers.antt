@@ -5,7 +5,7 @@ use Rattle.script_lang.specs.Checking.{is_mirror, party_label}
 use Rattle.script_report.specs.Texts.{mdeliver_text, mfetch_text, watch_text}
 use Rattle.repo_catalog.specs.declared.entry.Entry.{Entry}
 use Rattle.bench_world.specs.EventValues.{ReportValue}
-use Rattle.bench_world.specs.Steps.{NamesAll}
+use Rattle.bench_world.specs.Steps.{NamesInRange}
 use Rattle.script_report.specs.Labels.{label_at}
 use Rattle.script_story.specs.ReportTexts.{listing_text, news_text, report_text}
 use Rattle.script_story.specs.Evaluation.{RunEnvironment}
@@ -17,7 +17,7 @@ use Rattle.script_story.specs.Headline.{AreTakenFirst, LineIsTaken}
 -- or lists, and that only members published.
 pub data NamesOnlyMembers (labels mirrors : List (List ℕ)) (report : List ℕ) : Type 0 where
   silent : report ≡ [] → NamesOnlyMembers labels mirrors report
-  tells : (printed : ReportValue) → report ≡ report_text labels printed → NamesAll (length labels) printed
+  tells : (printed : ReportValue) → report ≡ report_text labels printed → NamesInRange (length labels) printed
       → NamesOnlyMembers labels mirrors report
   watches : (m number : ℕ) → report ≡ watch_text (label_at labels m) number → m < length labels
       → NamesOnlyMembers labels mirrors report

@@ -26,37 +26,37 @@ kept members m =
     }
 
 -- The member is Steady from now on, and its timer is due after a drawn period. Times are in milliseconds.
-abbrev pub steady_joined : ℕ → ℕ → SyncState → SyncState
-steady_joined now draw k = record k { heard = None; deadline = now + periodic draw; draws = k.draws + 1 }
+abbrev pub becomes_steady : ℕ → ℕ → SyncState → SyncState
+becomes_steady now draw k = record k { heard = None; deadline = now + periodic draw; draws = k.draws + 1 }
 
 -- The member hears a vector. A Steady one is Suppressed where that vector lacks what the member knows.
-abbrev pub hears_joined : ℕ → List ℕ → List ℕ → ℕ → SyncState → Option (List ℕ) → SyncState
-hears_joined now received known draw k None =
-    if covers received known then steady_joined now draw k
+abbrev pub after_hearing : ℕ → List ℕ → List ℕ → ℕ → SyncState → Option (List ℕ) → SyncState
+after_hearing now received known draw k None =
+    if covers received known then becomes_steady now draw k
     else record k { heard = Some received; deadline = now + suppression draw; draws = k.draws + 1 }
-hears_joined now received known draw k (Some vector) = record k { heard = Some (join vector received) }
+after_hearing now received known draw k (Some vector) = record k { heard = Some (join vector received) }
 
 -- What a member does whose timer is due: it sends, unless what it heard covers what it knows.
-abbrev pub due_joined : List ℕ → Option (List ℕ) → Fired
-due_joined known None = Send
-due_joined known (Some vector) = if covers vector known then Quiet else Send
+abbrev pub when_due : List ℕ → Option (List ℕ) → Fired
+when_due known None = Send
+when_due known (Some vector) = if covers vector known then Quiet else Send
 
 -- What a member does whose timer is asked at this time.
-abbrev pub fires_joined : ℕ → List ℕ → SyncState → Fired
-fires_joined now known k = if nat_lt now k.deadline then Early else due_joined known k.heard
+abbrev pub when_fired : ℕ → List ℕ → SyncState → Fired
+when_fired now known k = if nat_lt now k.deadline then Early else when_due known k.heard
 
 -- The state afterwards: a timer that was due is set anew.
-abbrev pub fired_joined : ℕ → ℕ → SyncState → SyncState
-fired_joined now draw k = if nat_lt now k.deadline then k else steady_joined now draw k
+abbrev pub state_after_firing : ℕ → ℕ → SyncState → SyncState
+state_after_firing now draw k = if nat_lt now k.deadline then k else becomes_steady now draw k
 
 -- The state after each event.
-unfoldable pub after_event_joined : SyncEvent → SyncState → SyncState
-after_event_joined (published now draw) k = steady_joined now draw k
-after_event_joined (heard now received known draw) k = hears_joined now received known draw k k.heard
-after_event_joined (fired now known draw) k = fired_joined now draw k
-after_event_joined (reset now draw) k = steady_joined now draw k
+unfoldable pub state_after_event : SyncEvent → SyncState → SyncState
+state_after_event (published now draw) k = becomes_steady now draw k
+state_after_event (heard now received known draw) k = after_hearing now received known draw k k.heard
+state_after_event (fired now known draw) k = state_after_firing now draw k
+state_after_event (reset now draw) k = becomes_steady now draw k
 
 -- The state after all events of a list.
-unfoldable pub after_events_joined : List SyncEvent → SyncState → SyncState
-after_events_joined [] k = k
-after_events_joined (e ∷ es) k = after_events_joined es (after_event_joined e k)
+unfoldable pub state_after_events : List SyncEvent → SyncState → SyncState
+state_after_events [] k = k
+state_after_events (e ∷ es) k = state_after_events es (state_after_event e k)

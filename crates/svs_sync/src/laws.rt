@@ -9,15 +9,15 @@ ghost use Rattle.svs_sync.specs.SyncInterest.{sync_interest, sync_verdict, is_sy
 ghost use Rattle.svs_sync.specs.declared.sync_refusal.SyncRefusal.TheVariants.{NoMemory, Vector};
 ghost use Rattle.svs_vector.specs.declared.vector_fault.VectorFault.TheVariants as vector;
 ghost use Rattle.std.specs.Prelude.{◌≢◌, IfErr};
-ghost use Rattle.svs_sync.specs.SyncStates.{kept, after_events_joined, fires_joined};
+ghost use Rattle.svs_sync.specs.SyncStates.{kept, state_after_events, when_fired};
 
 /// After any list of events, what is kept is what the table says over the list of vectors heard since the member was
 /// last Steady, with their join for the list.
 pub fn what_is_kept_is_the_join()
     ensures after { (members : ℕ) (events : List SyncEvent) (m : SyncMember)
-        → after_events_joined events (kept members m) ≡ kept members (after_sync_events events m) }
+        → state_after_events events (kept members m) ≡ kept members (after_sync_events events m) }
     ensures fires { (members now : ℕ) (known : List ℕ) (m : SyncMember)
-        → fires_joined now known (kept members m) ≡ fires now known m }
+        → when_fired now known (kept members m) ≡ fires now known m }
     ensures mode { (members : ℕ) (m : SyncMember) → mode_of (kept members m).heard ≡ mode_of m.heard }
 {}
 

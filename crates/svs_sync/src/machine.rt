@@ -1,6 +1,6 @@
 ghost use Rattle.std.specs.Prelude.{◌≡◌, ◌+◌, ◌^◌, ◌<◌, None, length, IfOk};
 ghost use Rattle.svs_sync.specs.Suppression.{mode_of, periodic, suppression};
-ghost use Rattle.svs_sync.specs.SyncStates.{steady_joined, hears_joined, fires_joined, fired_joined};
+ghost use Rattle.svs_sync.specs.SyncStates.{becomes_steady, after_hearing, when_fired, state_after_firing};
 
 use crate::fired::Fired;
 use crate::mode::Mode;
@@ -55,7 +55,7 @@ impl Machine {
     pub fn published(&mut self, now: u64, draw: u32)
         requires early { now < 2 ^ 62 }
         requires few { self.old.draws < 2 ^ 62 }
-        ensures { self.new ≡ steady_joined now draw self.old }
+        ensures { self.new ≡ becomes_steady now draw self.old }
     {
         self.settle(now, draw);
     }
@@ -64,7 +64,7 @@ impl Machine {
     pub fn reset(&mut self, now: u64, draw: u32)
         requires early { now < 2 ^ 62 }
         requires few { self.old.draws < 2 ^ 62 }
-        ensures { self.new ≡ steady_joined now draw self.old }
+        ensures { self.new ≡ becomes_steady now draw self.old }
     {
         self.settle(now, draw);
     }
@@ -75,7 +75,7 @@ impl Machine {
         requires few { self.old.draws < 2 ^ 62 }
         requires received { length received.now ≡ self.old.members }
         requires known { length known.now ≡ self.old.members }
-        ensures kept { self.new ≡ hears_joined now received.now known.now draw self.old self.old.heard }
+        ensures kept { self.new ≡ after_hearing now received.now known.now draw self.old self.old.heard }
         ensures mode { result ≡ mode_of self.new.heard }
     {
         match self.mode {
@@ -98,8 +98,8 @@ impl Machine {
         requires early { now < 2 ^ 62 }
         requires few { self.old.draws < 2 ^ 62 }
         requires known { length known.now ≡ self.old.members }
-        ensures fired { result ≡ fires_joined now known.now self.old }
-        ensures kept { self.new ≡ fired_joined now draw self.old }
+        ensures fired { result ≡ when_fired now known.now self.old }
+        ensures kept { self.new ≡ state_after_firing now draw self.old }
     {
         let fired = self.fires(now, known);
         if now >= self.deadline {
@@ -111,7 +111,7 @@ impl Machine {
     /// What the member would do now, as `fired` answers. Nothing is done.
     pub fn fires(&self, now: u64, known: &Vector) -> Fired
         requires { length known.now ≡ self.now.members }
-        ensures { result ≡ fires_joined now known.now self.now }
+        ensures { result ≡ when_fired now known.now self.now }
     {
         if now < self.deadline {
             return Fired::Early;
@@ -147,7 +147,7 @@ impl Machine {
     fn settle(&mut self, now: u64, draw: u32)
         requires early { now < 2 ^ 62 }
         requires few { self.old.draws < 2 ^ 62 }
-        ensures { self.new ≡ steady_joined now draw self.old }
+        ensures { self.new ≡ becomes_steady now draw self.old }
     {
         self.mode = Mode::Steady;
         self.deadline = now + periodic(draw);

@@ -5,8 +5,8 @@ ghost use Rattle.repo_plan.specs.Parts.{pair_of};
 ghost use Rattle.repo_plan.specs.Plan.{holds, hides, may_be_asked_for, is_claimed, after_hold, uses_room};
 ghost use Rattle.repo_store.specs.StoreList.{with_packet};
 ghost use Rattle.repo_holdings.specs.Contents.{IsDigestIn};
-ghost use Rattle.repo_holdings.specs.Gaining.{AreTied, IsArrival, IsMissing, IsPacketOf, HaveRoomFor};
-ghost use Rattle.repo_holdings.specs.Stock.{IsSound, HasRoom, HoldsToo};
+ghost use Rattle.repo_holdings.specs.Gaining.{PlanFits, IsArrival, IsMissing, IsPacketOf, HaveRoomFor};
+ghost use Rattle.repo_holdings.specs.Stock.{IsSound, HasRoom, AfterHolding};
 ghost use Rattle.repo_holdings.specs.Taking.{IsChange};
 ghost use Rattle.repo_holdings.specs.HoldingsState.{held_plan, AreInOrder};
 
@@ -57,7 +57,7 @@ impl Stock {
         requires missing { IsMissing self.old.plan part }
         requires arrival { IsArrival self.old.store.packets part arrival.packet arrival.summary }
         requires digests { All (IsDigestIn (with_packet part arrival.packet self.old.store.packets)) digests.now }
-        ensures gained { HoldsToo part arrival.packet self.old self.new }
+        ensures gained { AfterHolding part arrival.packet self.old self.new }
         ensures sound { IsSound self.new }
         ensures change { IsChange result self.old.store.packets self.new.store.packets }
     {
@@ -84,7 +84,7 @@ pub(super) fn gain(
     shape: Option<Shape>,
 )
     requires room { HaveRoomFor 1 plan.old store.old }
-    requires tied { AreTied plan.old store.old.packets }
+    requires tied { PlanFits plan.old store.old.packets }
     requires missing { IsMissing plan.old part }
     requires packet { IsPacketOf store.old.packets part packet shape }
     ensures plan { plan.new ≡ uses_room (after_hold part shape plan.old) }
@@ -92,7 +92,7 @@ pub(super) fn gain(
       packets = with_packet part packet store.old.packets;
       spare = store.old.spare - 1;
     } }
-    ensures tied { AreTied plan.new store.new.packets }
+    ensures tied { PlanFits plan.new store.new.packets }
 {
     plan.hold_reserved(part, shape);
     store.put_shared(part, packet);

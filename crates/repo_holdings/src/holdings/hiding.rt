@@ -4,7 +4,7 @@ ghost use Rattle.sorted_lists.specs.SortedList.{Rises, contains, value_of};
 ghost use Rattle.repo_plan.specs.Parts.{Pair, pair_cmp};
 ghost use Rattle.repo_plan.specs.Plan.{claims_part_in};
 ghost use Rattle.repo_holdings.specs.Listed.{is_withdrawal};
-ghost use Rattle.repo_holdings.specs.Stock.{AreKept};
+ghost use Rattle.repo_holdings.specs.Stock.{MatchesEntries};
 ghost use Rattle.repo_holdings.specs.HoldingsState.{held_plan, AreInOrder};
 ghost use Rattle.repo_holdings.specs.Hiding.{outside_all, IsHiding, CanBeHidden, LeavesRoom, hides_all, plan_hides};
 
@@ -47,10 +47,10 @@ impl Holdings {
 fn hide_all(stock: &mut Stock, catalogue: &mut Catalogue, publications: &[(u32, u16)])
     requires room { length publications.now ≤ stock.old.plan.spare }
     requires hidable { CanBeHidden publications.now stock.old }
-    requires kept { AreKept stock.old catalogue.old.entries }
+    requires kept { MatchesEntries stock.old catalogue.old.entries }
     ensures hidden { IsHiding publications.now stock.old.plan stock.new.plan }
     ensures packets { stock.new.store.packets ≡ outside_all publications.now stock.old.store.packets }
-    ensures kept { AreKept stock.new catalogue.new.entries }
+    ensures kept { MatchesEntries stock.new catalogue.new.entries }
     ensures room { LeavesRoom (length publications.now) stock.old stock.new }
     ensures catalogue_room { catalogue.new.spare ≡ catalogue.old.spare }
 {

@@ -1,5 +1,5 @@
 ghost use Rattle.std.specs.Prelude.{◌≡◌, ◌≤◌, vec_len};
-ghost use Rattle.repo_holdings.specs.Gaining.{AreTied, KeepsOthers, HaveRoomFor, HaveUsed};
+ghost use Rattle.repo_holdings.specs.Gaining.{PlanFits, KeepsOthers, HaveRoomFor, HaveUsed};
 ghost use Rattle.repo_holdings.specs.HoldingsState.{held_plan, AreInOrder};
 ghost use Rattle.repo_holdings.specs.NewPublications.{with_packets, as_parts, publishes_too, IsNew, ArePackets};
 
@@ -61,13 +61,13 @@ fn gain_all(
     packets: Vec<Packet>,
 )
     requires room { HaveRoomFor (vec_len packets) plan.old store.old }
-    requires tied { AreTied plan.old store.old.packets }
+    requires tied { PlanFits plan.old store.old.packets }
     requires new { IsNew plan.old (publisher, seq) }
     requires packets { ArePackets summary.now packets.items }
     ensures packets { store.new.packets ≡ with_packets
         (as_parts (publisher, seq) 0 packets.items) store.old.packets }
     ensures others { KeepsOthers plan.old plan.new }
-    ensures tied { AreTied plan.new store.new.packets }
+    ensures tied { PlanFits plan.new store.new.packets }
     ensures room { HaveUsed (vec_len packets) plan.old store.old plan.new store.new }
 {
     let shape = summary.shape();

@@ -70,7 +70,7 @@ impl Holdings {
         let mut came: usize = 0;
         for place in 0..jobs.len() {
             let Part { publisher, seq, .. } = jobs[place].want.part();
-            came = came.saturating_add(usize::from(came_at(parts, place).is_some()));
+            came = came.saturating_add(usize::from(received_at(parts, place).is_some()));
             if !is_last(jobs, place) {
                 continue;
             }
@@ -163,13 +163,13 @@ impl Holdings {
         let Ok(place) = jobs.binary_search_by_key(&part, |job| job.want.part()) else {
             return None;
         };
-        let checked = came_at(parts, place)?;
+        let checked = received_at(parts, place)?;
         Some(content_of(checked))
     }
 }
 
 // The result of the job of a place.
-fn came_at<'s, 'a>(parts: &'s [Option<Checked<'a>>], place: usize) -> Option<&'s Checked<'a>>
+fn received_at<'s, 'a>(parts: &'s [Option<Checked<'a>>], place: usize) -> Option<&'s Checked<'a>>
     ensures { IfSome result (λ checked. slice_get parts.now place ≡ Some (Some checked.now)) }
 {
     parts.get(place)?.as_ref()

@@ -2,7 +2,7 @@ ghost use Rattle.std.specs.Prelude.{◌≡◌, ◌<◌, ◌≤◌, ◌^◌, ◌�
 ghost use Rattle.std.specs.Prelude.{length, slice_index};
 ghost use Rattle.svs_vector.specs.Vectors.{join};
 ghost use Rattle.svs_sync.specs.Suppression.{mode_of};
-ghost use Rattle.svs_sync.specs.SyncStates.{fires_joined};
+ghost use Rattle.svs_sync.specs.SyncStates.{when_fired};
 ghost use Rattle.repo_member.specs.Groups.{node_limit};
 ghost use Rattle.repo_member.specs.MemberState.{IsOfGroup, member_learns, member_hears, member_fires};
 ghost use Rattle.repo_member.specs.Verdicts.{sync_of, hear_verdict, IsHearRefusal};
@@ -99,7 +99,7 @@ impl Member {
         requires group { IsOfGroup g.now self.old }
         requires early { now < 2 ^ 62 }
         requires few { self.old.machine.draws < 2 ^ 62 }
-        ensures fire { IfOk result (IsFireAnswer (fires_joined now self.old.known self.old.machine)
+        ensures fire { IfOk result (IsFireAnswer (when_fired now self.old.known self.old.machine)
             (sync_of g.now self.old.number self.old.known)) }
         ensures ok { OnOk result (self.new ≡ member_fires now draw self.old) }
         ensures err { OnErr result (self.new ≡ self.old) }

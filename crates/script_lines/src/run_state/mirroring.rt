@@ -4,7 +4,7 @@ ghost use Rattle.std.specs.Prelude.{IfErr, IfOk, OnOk, slice_set};
 ghost use Rattle.group_model.specs.World.{initial_world, sent_at};
 ghost use Rattle.group_model.specs.Refusals.{unless_sent};
 ghost use Rattle.bench_world.specs.EventValues.{event_value};
-ghost use Rattle.bench_world.specs.Steps.{IsReady};
+ghost use Rattle.bench_world.specs.Steps.{EventInRange};
 ghost use Rattle.bench_world.specs.Worlds.{drawing, world_of};
 ghost use Rattle.script_lang.specs.declared.line.Line.TheVariants as line;
 ghost use Rattle.script_lang.specs.Forms.{publisher_value, stated};
@@ -328,7 +328,7 @@ pub(super) fn settle_after<R: Threads + Sync>(
     world: &mut World,
     event: &Event,
 ) -> Result<(), LineError>
-    requires ready { IsReady (length world.old.keys.members.names) (event_value event.now) }
+    requires ready { EventInRange (length world.old.keys.members.names) (event_value event.now) }
     ensures same { OnOk result (IsSameGroup world.old world.new world.old.steps) }
     ensures mirrors { OnOk result (map mirror_as world.new.mirrors
         ≡ mirrors_after (world_of world.old) (event_value event.now) (map mirror_as world.old.mirrors)) }

@@ -25,8 +25,8 @@ returns-in-Some-Withdrawal-clause-noted c =
     || contains pair_cmp c.args.notes.now.withdrawn q) (sym c.in-Some-Withdrawal.is)
     ∙ c.requires.said.withdrawn q)
 
-pub entry_if_whole-entry-requires-clause-named : goal.entry_if_whole-entry-requires-clause-named
-entry_if_whole-entry-requires-clause-named c = elim c.match-summary.branch [
+pub take_entry_if_whole-entry-requires-clause-named : goal.take_entry_if_whole-entry-requires-clause-named
+take_entry_if_whole-entry-requires-clause-named c = elim c.match-summary.branch [
   | in-Some-Object w ↦
       let packets = c.args.store.now.packets in
       let pair : Pair = c.args.publication in
@@ -51,13 +51,13 @@ pub returns-clause-noted : goal.returns-clause-noted
 returns-clause-noted c = elim c.match-summary.branch [
   | in-Some-Object w ↦
       noted_since c.args.store.now.packets c.args.publication c.args.notes.now c.match-summary.notes
-      c.entry_if_whole-entry.new.notes
+      c.take_entry_if_whole-entry.new.notes
       (λ q other. ap (λ (n : NotesState). value_of pair_cmp n.names q) w.notes-is
       ∙ others_named c.args.publication w.in-Some-Object.name c.args.notes.now.names w.note_name.new.self.names
       w.note_name.ensures.names q other)
-      c.entry_if_whole-entry.ensures.noted
+      c.take_entry_if_whole-entry.ensures.noted
   | in-None w ↦
       noted_since c.args.store.now.packets c.args.publication c.args.notes.now c.match-summary.notes
-      c.entry_if_whole-entry.new.notes (λ q other. ap (λ (n : NotesState). value_of pair_cmp n.names q) w.notes-is)
-      c.entry_if_whole-entry.ensures.noted
+      c.take_entry_if_whole-entry.new.notes (λ q other. ap (λ (n : NotesState). value_of pair_cmp n.names q) w.notes-is)
+      c.take_entry_if_whole-entry.ensures.noted
 ]

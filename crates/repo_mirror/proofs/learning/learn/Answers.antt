@@ -2,7 +2,7 @@ use Rattle.std.proofs.Common.{ℕ, List, take, length, sym, ap, ◌∙◌, arith
 use Rattle.std.proofs.lemmas.List.{length-set}
 use Rattle.svs_vector.specs.Vectors.{join}
 use Rattle.svs_vector.proofs.JoinLemmas.{join-[]}
-use Rattle.repo_holdings.specs.HoldingsState.{HoldingsState, knows_too}
+use Rattle.repo_holdings.specs.HoldingsState.{HoldingsState, with_known_up_to}
 use Rattle.repo_watch.specs.Patterns.{is_publisher}
 use Rattle.repo_mirror.specs.Asked.{asked_numbers}
 use Rattle.repo_mirror.proofs.AskedLemmas.{length-asked, asked_next}
@@ -27,11 +27,11 @@ loop-member-preserved c =
     let i : ℕ = c.loop-member.member in
     let so_far = join c.args.vector.now (take i c.args.received.now) in
     let known : ℕ → HoldingsState = λ n.
-    knows_too i n (record c.args.held.now { known = asked_numbers c.args.asked 0 so_far }) in
+    with_known_up_to i n (record c.args.held.now { known = asked_numbers c.args.asked 0 so_far }) in
     record {
       held =
           c.raise.ensures
-          ∙ ap (knows_too i c.asked_number-number.result) c.loop-member.invariant.held
+          ∙ ap (with_known_up_to i c.asked_number-number.result) c.loop-member.invariant.held
           ∙ ap known (c.asked_number-number.ensures
           ∙ ap (λ (n : ℕ). cond (is_publisher c.args.asked i) n 0) c.get.ensures)
           ∙ ap (λ (k : List ℕ). record c.args.held.now { known = k })

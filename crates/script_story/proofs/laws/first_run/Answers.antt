@@ -9,7 +9,7 @@ use Rattle.ndn_name.specs.UriText.{octets_of_digits, unescaped}
 use Rattle.repo_object.specs.Publication.{segment_packets_from}
 use Rattle.repo_object.specs.Records.{digests_among}
 use Rattle.svs_vector.specs.Vectors.{covers, join, join_all}
-use Rattle.svs_sync.specs.SyncStates.{after_events_joined, after_event_joined}
+use Rattle.svs_sync.specs.SyncStates.{state_after_events, state_after_event}
 use Rattle.svs_sync.specs.Suppression.{after_sync_event, after_sync_events}
 use Rattle.script_lang.specs.Kinds.{content_of, filled_of, hex_of, label_of, uri_of, numeral_of}
 use Rattle.script_lang.specs.Lines.{verb_named, values_of}
@@ -21,7 +21,7 @@ use Rattle.script_story.proofs.laws.first_run.Goals as goal
 
 pub returns : goal.returns
 unfolding decode_pairs encode_with digits number encoding after_word component_of_text components_of_texts cut_at
-    name_of_text octets_of_digits unescaped covers join join_all after_events_joined after_event_joined after_sync_event
+    name_of_text octets_of_digits unescaped covers join join_all state_after_events state_after_event after_sync_event
     after_sync_events content_of filled_of hex_of label_of uri_of numeral_of verb_named values_of entries_text line
     labelled_numbers summary_text lines acted acted_by line_taken evaluated_line evaluated run_from sha256 digest_bytes
     hash_after compress rounds schedule first_words segment_packets_from digests_among

@@ -5,7 +5,7 @@ use Rattle.group_model.specs.Refusals.{refusal}
 use Rattle.repo_member.specs.InGroup.{in_group}
 use Rattle.bench_world.specs.Serving.{environment}
 use Rattle.bench_world.specs.EventValues.{event_value, group_event}
-use Rattle.bench_world.specs.Steps.{IsReady, IsStepFaultOf}
+use Rattle.bench_world.specs.Steps.{EventInRange, IsStepFaultOf}
 use Rattle.bench_world.specs.Runs.{event_values, IsStopped}
 use Rattle.bench_world.specs.Worlds.{world_of}
 use Rattle.bench_world.proofs.EventRuns.{taken_more, world_more, many_more, stopped_here}
@@ -31,8 +31,8 @@ loop-event-preserved g c =
     let inside : c.loop-event.event-index < length c.args.events.now =
     omega (arith, c.loop-event-test.true, c.loop-event.auto.event-index-end) in
     let item = c.event-item.result in
-    let ready : IsReady (length c.args.self.now.keys.members.names) (event_value c.event-item.result) =
-    subst (λ e. IsReady (length c.args.self.now.keys.members.names) (event_value e)) (sym c.event-item.is)
+    let ready : EventInRange (length c.args.self.now.keys.members.names) (event_value c.event-item.result) =
+    subst (λ e. EventInRange (length c.args.self.now.keys.members.names) (event_value e)) (sym c.event-item.is)
     (c.requires.fits i c.event-item.result inside).ready in
     let not_refused : refusal
     (environment c.args.self.now.keys (g.D.Draws.draw c.args.draws.now) (g.N.Net.passes c.args.net.now))
@@ -99,8 +99,8 @@ returns-in-Err-clause-stopped g c =
     let inside : c.loop-event.event-index < length c.args.events.now =
     omega (arith, c.loop-event-test.true, c.loop-event.auto.event-index-end) in
     let item = c.event-item.result in
-    let ready : IsReady (length c.args.self.now.keys.members.names) (event_value c.event-item.result) =
-    subst (λ e. IsReady (length c.args.self.now.keys.members.names) (event_value e)) (sym c.event-item.is)
+    let ready : EventInRange (length c.args.self.now.keys.members.names) (event_value c.event-item.result) =
+    subst (λ e. EventInRange (length c.args.self.now.keys.members.names) (event_value e)) (sym c.event-item.is)
     (c.requires.fits i c.event-item.result inside).ready in
     let because : IsStepFaultOf
     (refusal (environment c.args.self.now.keys (g.D.Draws.draw c.args.draws.now) (g.N.Net.passes c.args.net.now))

@@ -3,7 +3,7 @@ use Rattle.std.proofs.lemmas.List.{length-map}
 use Rattle.repo_member.specs.InGroup.{in_group}
 use Rattle.bench_world.specs.Serving.{environment}
 use Rattle.bench_world.specs.EventValues.{event_value}
-use Rattle.bench_world.specs.Steps.{IsReady}
+use Rattle.bench_world.specs.Steps.{EventInRange}
 use Rattle.bench_world.specs.Runs.{IsStep}
 use Rattle.bench_world.specs.Worlds.{GroupState, world_of}
 use Rattle.bench_world.proofs.Names.{names_all}
@@ -12,13 +12,13 @@ use Rattle.bench_world.proofs.world.World.take_event.Goals as goal
 
 pub order_names_for-requires : goal.order_names_for-requires
 order_names_for-requires g c =
-    subst (λ n. IsReady n (event_value c.args.event.now)) (sym c.cite_soundness.ensures.names) c.requires.fits.ready
+    subst (λ n. EventInRange n (event_value c.args.event.now)) (sym c.cite_soundness.ensures.names) c.requires.fits.ready
 
 pub carry_out-requires-clause-ready : goal.carry_out-requires-clause-ready
 carry_out-requires-clause-ready g c κs within =
-    subst (λ (s : GroupState). IsReady (length s.members) (event_value c.args.event.now))
+    subst (λ (s : GroupState). EventInRange (length s.members) (event_value c.args.event.now))
     (sym c.order_names_for.ensures)
-    (subst (λ n. IsReady n (event_value c.args.event.now)) (sym c.cite_soundness.ensures.names) c.requires.fits.ready)
+    (subst (λ n. EventInRange n (event_value c.args.event.now)) (sym c.cite_soundness.ensures.names) c.requires.fits.ready)
 
 pub returns : goal.returns
 returns g c =

@@ -15,7 +15,7 @@ use Rattle.repo_holdings.specs.Records.{Packet}
 use Rattle.repo_holdings.specs.HoldingsState.{HoldingsState}
 use Rattle.repo_holdings.specs.Taking.{fetched_for, with_fetched_for, PartsDiffer}
 use Rattle.repo_holdings.proofs.FreshLemmas.{fetched_stays}
-use Rattle.repo_holdings.proofs.ArrivedLemmas.{job_part, came_at}
+use Rattle.repo_holdings.proofs.ArrivedLemmas.{job_part, received_at}
 use Rattle.repo_holdings.proofs.holdings.Holdings.content_with.Goals as goal
 
 abbrev content_or : Option (List ℕ) → List ℕ
@@ -65,7 +65,7 @@ came_there : (jobs : List Job) (parts : List (Option CheckedPart)) (packets : Li
 came_there jobs parts packets t i d checked differ low same none there =
     let part : (get_or jobs i d).want.part ≡ t = exact_parts.same (get_or jobs i d).want.part t same in
     ap (value_of part_cmp (with_fetched_for jobs parts packets)) (sym part)
-    ∙ came_at jobs parts packets i d checked differ low (ap (value_of part_cmp packets) part ∙ none) there
+    ∙ received_at jobs parts packets i d checked differ low (ap (value_of part_cmp packets) part ∙ none) there
 
 pub returns-clause-exact : goal.returns-clause-exact
 returns-clause-exact c =

@@ -2,7 +2,7 @@ use Rattle.std.proofs.Common.{ℕ, List, take, max, length, sym, ap, ◌∙◌, 
 use Rattle.std.specs.Prelude.{slice_index, slice_set}
 use Rattle.svs_vector.specs.Vectors.{join}
 use Rattle.svs_vector.proofs.JoinLemmas.{join-[]}
-use Rattle.repo_holdings.specs.HoldingsState.{HoldingsState, knows_too}
+use Rattle.repo_holdings.specs.HoldingsState.{HoldingsState, with_known_up_to}
 use Rattle.repo_member.proofs.VectorLemmas.{join_next, length-join_take}
 use Rattle.repo_member.proofs.member.syncing.learn.Goals as goal
 
@@ -19,7 +19,7 @@ raise-requires c =
 pub loop-member-preserved : goal.loop-member-preserved
 loop-member-preserved c =
     let so_far = join c.args.vector.now (take c.loop-member.member c.args.received.now) in
-    c.raise.ensures ∙ ap (knows_too c.loop-member.member c.get.result) c.loop-member.invariant
+    c.raise.ensures ∙ ap (with_known_up_to c.loop-member.member c.get.result) c.loop-member.invariant
     ∙ ap (λ (n : ℕ). record c.args.held.now {
       known = slice_set so_far c.loop-member.member (max (slice_index so_far c.loop-member.member) n);
     }) c.get.ensures

@@ -1,7 +1,7 @@
 use Rattle.std.proofs.Common.{sym, subst, arith}
 use Rattle.repo_plan.specs.Plan.{PlanState}
 use Rattle.repo_holdings.specs.declared.holdings.stock.Stock.{Stock}
-use Rattle.repo_holdings.specs.Gaining.{AreTied}
+use Rattle.repo_holdings.specs.Gaining.{PlanFits}
 use Rattle.repo_holdings.specs.Stock.{IsSound}
 use Rattle.repo_holdings.proofs.FreshLemmas.{waits_more}
 use Rattle.repo_holdings.proofs.TakingLemmas.{tied_tried}
@@ -17,7 +17,7 @@ returns-clause-sound c =
     ] in
     record {
       tied =
-          subst (λ (p : PlanState). AreTied p c.match-arrival.self.store.packets) (sym c.add_attempts_reserved.ensures)
+          subst (λ (p : PlanState). PlanFits p c.match-arrival.self.store.packets) (sym c.add_attempts_reserved.ensures)
           (tied_tried c.match-arrival.self.plan c.match-arrival.self.store.packets c.args.tried.part
           c.args.tried.attempts sound.tied);
       noted = sound.noted;

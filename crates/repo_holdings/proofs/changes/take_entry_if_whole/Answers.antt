@@ -12,7 +12,7 @@ use Rattle.repo_holdings.specs.Noted.{NotesState}
 use Rattle.repo_holdings.proofs.CatalogueLemmas.{entry_of_none}
 use Rattle.repo_holdings.proofs.WholeLemmas.{some_of, some_shape, listed_whole, listed_not, listed_complete}
 use Rattle.repo_holdings.proofs.NotedLemmas.{noted_taken}
-use Rattle.repo_holdings.proofs.changes.entry_if_whole.Goals as goal
+use Rattle.repo_holdings.proofs.changes.take_entry_if_whole.Goals as goal
 
 pub returns-then-not-complete-clause-entry : goal.returns-then-not-complete-clause-entry
 returns-then-not-complete-clause-entry c =
