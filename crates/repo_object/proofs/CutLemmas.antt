@@ -13,7 +13,7 @@ use Rattle.sorted_lists.specs.Range.{numbers_from}
 use Rattle.sorted_lists.proofs.Ranges.{length-numbers}
 use Rattle.repo_object.specs.Cuts.{piece, pieces, AreCut}
 
--- the pieces after the first are those of what is after it
+-- the pieces after the first are the pieces of the content after its first `size` octets
 pieces_after : (size : ℕ) (content : List ℕ) (first n : ℕ)
     → map (piece size content) (numbers_from (first + 1) n)
     ≡ map (piece size (drop size content)) (numbers_from first n)
@@ -94,7 +94,7 @@ Piece size p = (0 < length p) × (length p ≤ size)
 abbrev joined : List (List ℕ) → List ℕ
 joined ps = flat_map (λ p. p) ps
 
--- where a piece follows, what is left is not empty
+-- where a piece follows, the rest of the content is not empty
 left_over : (size : ℕ) (ps : List (List ℕ)) (rest : List ℕ) → joined ps ≡ rest → All (Piece size) ps → 0 < length ps
     → 0 < length rest
 left_over size [] rest e all some = absurd (omega arith)

@@ -18,7 +18,7 @@ pub many_kind : (n : ℕ) → 200 < n → is_indexed n ≡ true
 many_kind n many =
     ap not (ne_eqb (index_packets n) 0 (λ none. absurd (omega (arith, none, index_of_many n many))))
 
--- there are as many as a record lists at most
+-- an object of at most 20,000 segments has at most 100 index packets
 pub index_few : (n : ℕ) → n ≤ 20000 → index_packets n ≤ 100
 index_few n few =
     elim (cases_lt 200 n) [
@@ -34,7 +34,7 @@ index_lists n k low =
       | inr at_most ↦ absurd (omega (arith, low, index_of_few n at_most))
     ]
 
--- and there are more than 200 segments
+-- where there are index packets, there are more than 200 segments
 pub index_many : (n : ℕ) → 0 < index_packets n → 200 < n
 index_many n some =
     elim (cases_lt 200 n) [ inl many ↦ many | inr at_most ↦ absurd (omega (arith, some, index_of_few n at_most)) ]

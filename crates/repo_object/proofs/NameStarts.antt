@@ -1,4 +1,4 @@
--- How octets begin that are those of a name in parts.
+-- How the octets of a name in parts begin.
 use Rattle.std.proofs.Common.{◌≡◌, ℕ, ◌<◌, ◌+◌, ◌^◌, Bool, true, false, cond, ◌==◌, List, [], ◌∷◌, ◌++◌, length}
 use Rattle.std.proofs.Common.{length-append, append_assoc, append-nil, drop, drop_at, refl, sym, ap, ◌∙◌, arith}
 use Rattle.std.proofs.Common.{Option, Some, None, Bor}
@@ -30,7 +30,7 @@ pub begins_so : (s p q rest later : List ℕ) → s ≡ p ++ rest → rest ≡ q
 begins_so s p q rest later first second =
     first ∙ ap (λ (octets : List ℕ). p ++ octets) second ∙ sym (append_assoc p q later)
 
--- with three
+-- octets begin with three parts, one after the other
 pub begins_with_three : (s p q n rest later last : List ℕ) → s ≡ p ++ rest → rest ≡ q ++ later → later ≡ n ++ last
     → s ≡ ((p ++ q) ++ n) ++ last
 begins_with_three s p q n rest later last first second third =

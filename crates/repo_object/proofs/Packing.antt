@@ -80,7 +80,7 @@ module _ (keyed : List Component) (key : List ℕ) (name : List Component) (last
   segments-length i [] = refl
   segments-length i (content ∷ contents) = ap suc (segments-length (i + 1) contents)
 
-  -- some of them are those of some contents
+  -- the packets after the first `n` are those of the contents after the first `n`
   segments-drop : (i n : ℕ) (contents : List (List ℕ))
       → drop n (segment_packets_from keyed key name last i contents)
       ≡ segment_packets_from keyed key name last (i + n) (drop n contents)
@@ -127,7 +127,7 @@ segment_at keyed key name last j (content ∷ contents) (suc i) =
     segment_at keyed key name last (j + 1) contents i
     ∙ ap (λ (n : ℕ). option_map (segment_packet keyed key name last n) (slice_get contents i)) same
 
--- so a packet at a place is that of the content there
+-- the packet at a place is that of the content at that place
 pub segment_from : (keyed : List Component) (key : List ℕ) (name : List Component) (last j : ℕ)
     (contents : List (List ℕ)) (i : ℕ) (octets : List ℕ)
     → slice_get (segment_packets_from keyed key name last j contents) i ≡ Some octets

@@ -146,7 +146,7 @@ digests_of_fields false (e ∷ es) long =
     let rest = digests_of_fields false es (All-tail IsDigest e.value (values es) long) in
     rw (eq-eqb (length e.value) 32 (All-head IsDigest e.value (values es) long), rest) refl
 
--- so many digests, where the fields are so many and no fault ends them
+-- fields of `n` digests are read as these, where no fault ends them
 counted_fields : (indexes : Bool) (n : ℕ) (items : List Item) (digests : List (List ℕ)) → values items ≡ digests
     → All IsDigest digests → length digests ≡ n
     → counted_digests indexes n (record { items = as_digests indexes items; fault = None }) ≡ Some digests

@@ -54,7 +54,7 @@ element_headed typ value =
     )
 
 module _ (content : List ℕ) (high : ℕ) where
-  -- room for so many digests
+  -- elements of digests between `low` and `high` have room there: 34 octets each
   digests_room : (low : ℕ) (items : List Item) → AreWithin low high items → Each (Stands content) items
       → All IsDigest (values items)
       → low + 34 * length items ≤ high

@@ -79,7 +79,7 @@ segment_spelled name i =
     ap (λ (x : List ℕ). x ++ numbered_in 0x32 i) (append-nil (encoding name))
     ∙ sym (encoding-push name (0x32, number_field i))
 
--- the same of octets that are the names'
+-- the octets of a record's name, from the octets `a` of the node's name and `b` of the group's
 pub record_octets : (a b : List ℕ) (node group : List Component) (seq : ℕ) → a ≡ encoding node → b ≡ encoding group
     → (a ++ b) ++ (numbered_in 0x3a seq ++ []) ≡ encoding (record_name node group seq)
 record_octets a b node group seq e f =

@@ -60,7 +60,7 @@ digest_values typ o [] = refl
 digest_values typ o (d ∷ ds) =
     ap (λ (xs : List (List ℕ)). d ∷ xs) (digest_values typ (o + length (element typ d)) ds)
 
--- those of segments, whatever places follow
+-- elements of segments' digests are fields, whatever places follow
 digests_are_fields : (others : List (Place RecordField)) (o : ℕ) (ds : List (List ℕ))
     → fields_among (digest_place ∷ others) (digest_items 0x83 o ds) None
     ≡ only_fields (as_digests false (digest_items 0x83 o ds))
@@ -70,7 +70,7 @@ digests_are_fields others o (d ∷ ds) =
     ap (λ (l : Listing Field FieldError). (field.Digest, placed o 0x83 d) then l)
     (digests_are_fields others (o + length (element 0x83 d)) ds)
 
--- those of index packets
+-- elements of index packets' digests are fields
 indexes_are_fields : (o : ℕ) (ds : List (List ℕ))
     → fields_among (index_place ∷ []) (digest_items 0x87 o ds) None
     ≡ only_fields (as_digests true (digest_items 0x87 o ds))
@@ -182,7 +182,7 @@ written_says (Lists l) within = (stated (record_content (Lists l)) (Lists l)).1 
 written_says (WithdrawsNumber seq) within =
     (stated (record_content (WithdrawsNumber seq)) (WithdrawsNumber seq)).1 (written_withdraws seq within.0 within.1)
 
--- and that of an index packet lists it
+-- the content of an index packet lists the digests that were given
 pub written_index : (digests : List (List ℕ)) → All IsDigest digests
     → index_of (index_content digests) (length digests) ≡ Some digests
 written_index digests long =

@@ -17,7 +17,8 @@ use Rattle.repo_object.specs.Records.{digest_len, record_fields, index_fields}
 abbrev pub IsDigest : List ℕ → Type 0
 IsDigest digest = length digest ≡ digest_len
 
--- What every listing is within that was read.
+-- The limits of a listing: its name may be an object's, `segments` is at most 20,000, and it has
+-- `count_listed l.segments` digests of 32 octets each.
 pub record IsListing (l : Listed) : Type 0 where
   pub name : IsName l.name
   pub named : IsTrue (is_object_name l.name)
@@ -25,24 +26,24 @@ pub record IsListing (l : Listed) : Type 0 where
   pub count : length l.digests ≡ count_listed l.segments
   pub digests : All IsDigest l.digests
 
--- The same of all that a record may say: a withdrawal is of a number from 1 to 65,535.
+-- The limits of what a record says: those of its listing, or a withdrawn number from 1 to 65,535.
 abbrev pub IsStated : RecordSays → Type 0
 IsStated (Lists l) = IsListing l
 IsStated (WithdrawsNumber seq) = (0 < seq) × (seq ≤ number_limit)
 
--- These elements as fields that list digests: of index packets, or of segments.
+-- The field that lists a digest: of an index packet if `indexes`, and else of a segment.
 abbrev pub digest_field : Bool → RecordField
 digest_field indexes = if indexes then field.IndexDigest else field.Digest
 
--- The fields of that kind that these elements are.
+-- The elements `items` as fields that list digests: of index packets if `indexes`, and else of segments.
 abbrev pub as_digests : Bool → List Item → List (RecordField × Item)
 as_digests indexes items = map (λ d. (digest_field indexes, d)) items
 
--- The elements' values.
+-- The values of the elements `items`.
 abbrev pub values : List Item → List (List ℕ)
 values items = map (λ d. d.value) items
 
--- A content has the fields of a record that lists this: a Name, a SegmentCount, then IndexDigests where there are index
+-- `content` has the fields of a record that lists `l`: a Name, a SegmentCount, then IndexDigests if there are index
 -- packets, and else Digests.
 pub record HasListing (content : List ℕ) (l : Listed) : Type 0 where
   pub name : Item
@@ -60,7 +61,7 @@ pub record HasListing (content : List ℕ) (l : Listed) : Type 0 where
   pub values : values digests ≡ l.digests
   pub are : All IsDigest l.digests
 
--- It has the field of a record that withdraws the publication of this number: Withdraws alone.
+-- `content` has the field of a record that withdraws the publication of number `seq`: Withdraws alone.
 pub record HasWithdrawal (content : List ℕ) (seq : ℕ) : Type 0 where
   pub number : Item
   pub fields : record_fields content ≡ record { items = (field.Withdraws, number) ∷ []; fault = None }
@@ -68,12 +69,12 @@ pub record HasWithdrawal (content : List ℕ) (seq : ℕ) : Type 0 where
   pub some : 0 < seq
   pub few : seq ≤ number_limit
 
--- So it has the fields of a record that says this.
+-- `content` has the fields of a record that lists `l`, or of one that withdraws the publication of number `seq`.
 abbrev pub HasStated : List ℕ → RecordSays → Type 0
 HasStated content (Lists l) = HasListing content l
 HasStated content (WithdrawsNumber seq) = HasWithdrawal content seq
 
--- It has the fields of an index packet that lists these digests of segments: Digests alone.
+-- `content` has the fields of an index packet that lists `digests`, which are of segments: Digests alone.
 pub record HasIndex (content : List ℕ) (digests : List (List ℕ)) : Type 0 where
   pub items : List Item
   pub fields : index_fields content ≡ record { items = as_digests false items; fault = None }

@@ -13,7 +13,7 @@ pub data Kind : Type 0 where
   OfIndexes : Kind
   OfWithdrawals : Kind
 
--- The places of the fields of that kind.
+-- The order table of records of one kind.
 abbrev pub kind_table : Kind → List (Place RecordField)
 kind_table OfSegments =
     once types.Name field.Name
@@ -27,7 +27,7 @@ kind_table OfIndexes =
     ∷ []
 kind_table OfWithdrawals = once record_types.Withdraws field.Withdraws ∷ []
 
--- Which fields these are.
+-- Whether a field is one that records of this kind have.
 abbrev pub is_of_kind : Kind → RecordField → Bool
 is_of_kind OfSegments field.Withdraws = false
 is_of_kind OfSegments field.Name = true

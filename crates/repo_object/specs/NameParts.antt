@@ -6,12 +6,12 @@ use Rattle.ndn_tlv.specs.NumberField.{number_field}
 use Rattle.ndn_name.specs.Names.{IsName, components, encoding}
 use Rattle.repo_object.specs.declared.name_parts.NameParts.{NameParts}
 
--- The component of that type that is a number, where there is one.
+-- The octets of the component of type `typ` whose value is a number, and no octets for None.
 abbrev pub numbered : ℕ → Option ℕ → List ℕ
 numbered typ None = []
 numbered typ (Some n) = element typ (number_field n)
 
--- The octets of all parts.
+-- The octets of all parts of a name, one after another.
 abbrev pub spelled : NameParts → List ℕ
 spelled parts =
     (parts.first.now ++ parts.second.now)

@@ -24,22 +24,22 @@ abbrev pub offered : Post → Option NamedContents
 offered (Offers object) = Some object
 offered (Withdraws seq) = None
 
--- The contents of its segments. A withdrawal has none.
+-- The contents of the segments of the published object. A withdrawal has none.
 abbrev pub contents_of : Post → List (List ℕ)
 contents_of (Offers object) = object.contents
 contents_of (Withdraws seq) = []
 
--- What its record says of its parts.
+-- The part counts of a publication. A withdrawal has neither index packets nor segments.
 abbrev pub shape_in : Post → Shape
 shape_in post = shape_of_segments (length (contents_of post))
 
--- It is the withdrawal of that number.
+-- Whether a publication is the withdrawal of number `seq`.
 abbrev pub withdraws_number : Post → ℕ → Bool
 withdraws_number (Offers object) seq = false
 withdraws_number (Withdraws withdrawn) seq = withdrawn == seq
 
--- An object's name has 1 to 400 octets of value, and no component that is a digest: the two types of
--- those are the least.
+-- Whether an object may have this name: it has 1 to 400 octets of value, and no component that is a digest. The two
+-- types of digests are the least types.
 abbrev pub is_object_name : List Component → Bool
 is_object_name name =
     nat_lt 0 (length (encoding name))
@@ -57,13 +57,13 @@ pub record IsObject (object : NamedContents) : Type 0 where
   pub few : length object.contents ≤ segment_limit
   pub contents : All IsContent object.contents
 
--- What may be published under a number: an object within the limits, or the withdrawal of a number from 1 on that is
--- below it.
+-- What may be published under number `seq`: an object within the limits, or the withdrawal of a number that is at least
+-- 1 and below `seq`.
 abbrev pub IsPost : ℕ → Post → Type 0
 IsPost seq (Offers object) = IsObject object
 IsPost seq (Withdraws withdrawn) = (0 < withdrawn) × (withdrawn < seq)
 
--- Who publishes: its node's name, its group's name, and its key.
+-- A publisher: the name of its node, the name of its group, and its key.
 pub record Publisher : Type 0 where
   pub node : List Component
   pub group : List Component
@@ -77,7 +77,7 @@ publisher node group key = record { node = node; group = group; key = key }
 abbrev pub IsShortName : List Component → Type 0
 IsShortName name = IsName name × (length (encoding name) ≤ node_name_limit)
 
--- A publisher's names are short.
+-- The names of the publisher's node and group have at most 200 octets of value each.
 pub record IsPublisher (publisher : Publisher) : Type 0 where
   pub node : IsShortName publisher.node
   pub group : IsShortName publisher.group
@@ -86,7 +86,7 @@ pub record IsPublisher (publisher : Publisher) : Type 0 where
 abbrev pub key_word : List ℕ
 key_word = 75 ∷ 69 ∷ 89 ∷ []
 
--- The name of a node's key: the node's with that word after it.
+-- The name of a node's key: the node's name with the component `KEY` after it.
 abbrev pub key_name : List Component → List Component
 key_name node = node ++ (types.GenericNameComponent, key_word) ∷ []
 

@@ -10,20 +10,20 @@ pub record IsPacket (octets : List ℕ) : Type 0 where
   pub read : data_of octets ≡ Ok packet
   pub name : IsName packet.name
 
--- The value of the name of what was read as Data.
+-- The value of the name of a Data packet that was read. It is empty for a fault.
 abbrev pub name_octets : Result Data PacketFault → List ℕ
 name_octets (Ok d) = encoding d.name
 name_octets (Err fault) = []
 
--- The value of a packet's name.
+-- The value of the name of the Data packet `octets`. It is empty if they are no Data packet.
 unfoldable pub packet_name : List ℕ → List ℕ
 packet_name octets = name_octets (data_of octets)
 
--- The content of what was read as Data.
+-- The content of a Data packet that was read. It is empty for a fault.
 abbrev pub content_octets : Result Data PacketFault → List ℕ
 content_octets (Ok d) = d.content
 content_octets (Err fault) = []
 
--- A packet's content.
+-- The content of the Data packet `octets`. It is empty if they are no Data packet.
 unfoldable pub packet_content : List ℕ → List ℕ
 packet_content octets = content_octets (data_of octets)

@@ -29,19 +29,19 @@ pub data RecordSays : Type 0 where
   Lists : Listed → RecordSays
   WithdrawsNumber : ℕ → RecordSays
 
--- Whether so many segments are listed by index packets.
+-- Whether an object of `segments` segments has index packets.
 abbrev pub is_indexed : ℕ → Bool
 is_indexed segments = not (index_packets segments == 0)
 
--- How many digests the record of so many segments lists.
+-- How many digests the record of an object of `segments` segments lists: of its index packets, or else of its segments.
 abbrev pub count_listed : ℕ → ℕ
 count_listed segments = if is_indexed segments then index_packets segments else segments
 
--- The type of the elements that such a record lists them in.
+-- The type of the elements in which the record of an object of `segments` segments lists its digests.
 abbrev pub digest_type : ℕ → ℕ
 digest_type segments = if is_indexed segments then record_types.IndexDigest else record_types.Digest
 
--- What a record says of its publication's parts. A withdrawal has none after its record.
+-- The part counts that a record says of its publication. A withdrawal has no part after its record.
 abbrev pub shape_stated : RecordSays → Shape
 shape_stated (Lists l) = shape_of_segments l.segments
 shape_stated (WithdrawsNumber seq) = shape_of_segments 0
@@ -60,12 +60,13 @@ index_content digests = flat_map (element record_types.Digest) digests
 
 -- ---- packets that are numbered under a name
 
--- The packet of that number under a name, which names the last number, signed with the key of that name.
+-- Packet `i` under the name `name`. It says that the last number is `last`, and is signed with `key`, whose name is
+-- `key_name`.
 abbrev pub segment_packet : List Component → List ℕ → List Component → ℕ → ℕ → List ℕ → List ℕ
 segment_packet key_name key name last i content =
     written_data (segment_name name i) (Some last) content key_name key
 
--- The packets from number `i` on, which have these contents.
+-- The packets under the name `name` that have these contents, numbered from `i` on.
 unfoldable pub segment_packets_from : List Component → List ℕ → List Component → ℕ → ℕ → List (List ℕ)
     → List (List ℕ)
 segment_packets_from key_name key name last i [] = []
@@ -73,7 +74,7 @@ segment_packets_from key_name key name last i (content ∷ contents) =
     segment_packet key_name key name last i content
     ∷ segment_packets_from key_name key name last (i + 1) contents
 
--- The packets of all these contents.
+-- The packets under the name `name` that have the contents `contents`, numbered from 0 on.
 abbrev pub packets_under : List Component → List ℕ → List Component → List (List ℕ) → List (List ℕ)
 packets_under key_name key name contents =
     segment_packets_from key_name key name (length contents - 1) 0 contents
@@ -85,28 +86,29 @@ abbrev pub published_segments : Publisher → NamedContents → List (List ℕ)
 published_segments publisher object =
     packets_under (key_name publisher.node) publisher.key object.name object.contents
 
--- What index packet `k`, counted from 0, lists of all: the 200 from place `200 k` on, or as many as there are.
+-- The elements of `all` that index packet `k`, counted from 0, lists: 200 from place `200 k` on, or fewer where `all`
+-- ends before.
 abbrev pub listed_by : {A : Type 0} → List A → ℕ → List A
 listed_by all k = take most_listed (drop (k * most_listed) all)
 
--- The contents of the index packets of segments with these packets.
+-- The contents of the index packets of an object whose segments have the packets `segments`.
 abbrev pub index_contents : List (List ℕ) → List (List ℕ)
 index_contents segments =
     map (λ k. index_content (map sha256 (listed_by segments k))) (numbers_from 0 (index_packets (length segments)))
 
--- The index packets of an object that is published under that number: they are numbered under the record's name.
+-- The index packets of an object that is published under number `seq`. They are numbered under the record's name.
 abbrev pub published_indexes : Publisher → ℕ → NamedContents → List (List ℕ)
 published_indexes publisher seq object =
     packets_under (key_name publisher.node) publisher.key (record_name publisher.node publisher.group seq)
     (index_contents (published_segments publisher object))
 
--- The packets that the object's record lists.
+-- The packets that the object's record lists: the index packets, or else those of the segments.
 abbrev pub listed_packets : Publisher → ℕ → NamedContents → List (List ℕ)
 listed_packets publisher seq object =
     if is_indexed (length object.contents) then published_indexes publisher seq object
     else published_segments publisher object
 
--- What the object's record lists.
+-- What the record lists of an object that is published under number `seq`.
 abbrev pub published_listing : Publisher → ℕ → NamedContents → Listed
 published_listing publisher seq object = record {
   name = object.name;
@@ -119,7 +121,7 @@ abbrev pub published_record : Publisher → ℕ → Post → RecordSays
 published_record publisher seq (Offers object) = Lists (published_listing publisher seq object)
 published_record publisher seq (Withdraws withdrawn) = WithdrawsNumber withdrawn
 
--- The packet of a record that says this, of the publication of that number.
+-- The packet of the record that says `says`, of the publication of number `seq`.
 abbrev pub record_packet : Publisher → ℕ → RecordSays → List ℕ
 record_packet publisher seq says =
     written_data (record_name publisher.node publisher.group seq) None (record_content says)

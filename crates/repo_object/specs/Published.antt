@@ -1,4 +1,4 @@
--- What several publishers published, and when a packet after a record is known by its name and its digest.
+-- Publications of several publishers, and when their packets after the records are free of collisions.
 use Rattle.std.specs.Prelude.{◌≡◌, ℕ, List, Some, Ok, slice_get}
 use Rattle.sha2.specs.Sha256.{sha256}
 use Rattle.ndn_data.specs.Data.{Data, data_of}
@@ -11,12 +11,12 @@ pub record Published : Type 0 where
   pub seq : ℕ
   pub post : Post
 
--- The packets of its index packets and its segments.
+-- The packets of the index packets and the segments of publication `p`.
 abbrev pub after : Published → List (List ℕ)
 after p = packets_after p.publisher p.seq p.post
 
--- An index packet or a segment of the one and an index packet or a segment of the other that have the same name and the
--- same digest are the same octets.
+-- An index packet or a segment of `p` and an index packet or a segment of `q` have the same octets if they have the
+-- same name and the same digest.
 abbrev pub AreCollisionFree : Published → Published → Type 0
 AreCollisionFree p q =
     (i j : ℕ) (a b : List ℕ) (d e : Data)
@@ -25,6 +25,7 @@ AreCollisionFree p q =
     → sha256 a ≡ sha256 b
     → a ≡ b
 
--- So it is between any two of a family of publications, as those of a group by member and number.
+-- Any two publications of a family are free of collisions. `published` gives the publication of each `A`, for example
+-- of each member and number in a group.
 abbrev pub IsCollisionFree : {A : Type 0} → (A → Published) → Type 0
 IsCollisionFree {A} published = (p q : A) → AreCollisionFree (published p) (published q)

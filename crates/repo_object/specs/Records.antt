@@ -19,8 +19,8 @@ use Rattle.repo_object.specs.Objects.{is_object_name}
 use Rattle.repo_object.specs.Publication.{RecordSays, is_indexed, count_listed}
 use Rattle.repo_object.specs.Publication.RecordSays.{Lists, WithdrawsNumber}
 
--- The places of the fields of records of every kind. What one kind has is critical in another, and so one table reads
--- them all.
+-- The order table of records of every kind. The fields of one kind are critical in another, and so one table reads them
+-- all.
 abbrev pub record_table : List (Place RecordField)
 record_table =
     once record_types.Withdraws field.Withdraws
@@ -30,7 +30,7 @@ record_table =
     ∷ repeated record_types.IndexDigest field.IndexDigest
     ∷ []
 
--- The places of the fields of an index packet.
+-- The order table of index packets.
 abbrev pub index_table : List (Place RecordField)
 index_table = repeated record_types.Digest field.Digest ∷ []
 
@@ -38,29 +38,30 @@ index_table = repeated record_types.Digest field.Digest ∷ []
 abbrev pub digest_len : ℕ
 digest_len = 32
 
--- What was read, where it passes a test.
+-- A value that was read, or None if it doesn't pass `test`.
 abbrev pub that_passes : {A : Type 0} → (A → Bool) → Option A → Option A
 that_passes test None = None
 that_passes test (Some x) = if test x then Some x else None
 
--- A name, where it was read.
+-- A name that was read, or None for a fault.
 abbrev pub read_name : Result (List Component) NameFault → Option (List Component)
 read_name (Ok name) = Some name
 read_name (Err fault) = None
 
--- The object's name that an element's value is.
+-- The object's name that is the value of element `e`, or None.
 abbrev pub object_name_in : Item → Option (List Component)
 object_name_in e = that_passes is_object_name (read_name (name_of e.value_start e.value))
 
--- The number of segments that an element's value is: 0 to 20,000.
+-- The number of segments, 0 to 20,000, that is the value of element `e`, or None.
 abbrev pub segment_count_in : Item → Option ℕ
 segment_count_in e = that_passes (λ n. nat_le n segment_limit) (number_of e.value)
 
--- The number of a publication that an element's value is: 1 to 65,535.
+-- The number of a publication, 1 to 65,535, that is the value of element `e`, or None.
 abbrev pub number_in : Item → Option ℕ
 number_in e = that_passes (λ n. nat_le 1 n && nat_le n number_limit) (number_of e.value)
 
--- Whether a field lists the digest of an index packet, or that of a segment.
+-- What a field's digest is of: Some true for an index packet, Some false for a segment, and None if the field has no
+-- digest.
 abbrev pub lists_index : RecordField → Option Bool
 lists_index field.Withdraws = None
 lists_index field.Name = None
@@ -68,19 +69,19 @@ lists_index field.SegmentCount = None
 lists_index field.Digest = Some false
 lists_index field.IndexDigest = Some true
 
--- The kind is known, and is this one.
+-- Whether the optional kind is there and is `indexes`.
 abbrev pub is_kind : Bool → Option Bool → Bool
 is_kind indexes None = false
 is_kind true (Some kind) = kind
 is_kind false (Some true) = false
 is_kind false (Some false) = true
 
--- The digest of that kind that a field is, of 32 octets.
+-- The digest of 32 octets that a field lists, or None: of an index packet if `indexes`, and else of a segment.
 abbrev pub digest_in : Bool → RecordField × Item → Option (List ℕ)
 digest_in indexes (field, e) =
     if is_kind indexes (lists_index field) && length e.value == digest_len then Some e.value else None
 
--- The digests that fields are, where each is one and nothing ends them but the end.
+-- The digests that fields list, or None if one of them lists none of the kind `indexes`, or if a fault ends the fields.
 unfoldable pub digests_among : Bool → List (RecordField × Item) → Option FieldError → Option (List (List ℕ))
 digests_among indexes [] None = Some []
 digests_among indexes [] (Some fault) = None
@@ -89,27 +90,29 @@ digests_among indexes (first ∷ fields) fault =
     (λ digest. option_map (λ digests. digest ∷ digests) (digests_among indexes fields fault))
     (digest_in indexes first)
 
--- The same, where there are so many.
+-- The digests that fields list, or None if they aren't exactly `count` digests of the kind `indexes`, or if a fault
+-- ends them.
 abbrev pub counted_digests : Bool → ℕ → Listing (RecordField × Item) FieldError → Option (List (List ℕ))
 counted_digests indexes count fields =
     that_passes (λ digests. length digests == count) (digests_among indexes fields.items fields.fault)
 
--- The digests that the record of so many segments lists.
+-- The digests that the record of an object of `segments` segments lists in the fields after its SegmentCount, or None.
 abbrev pub listed_digests : ℕ → List (RecordField × Item) → Option FieldError → Option (List (List ℕ))
 listed_digests segments items fault =
     counted_digests (is_indexed segments) (count_listed segments) (record { items = items; fault = fault })
 
--- What a record says that begins with Withdraws: nothing else follows.
+-- What a record says that begins with Withdraws, or None if it has no number of a publication, or if anything follows.
 abbrev pub withdrawal_among : Item → List (RecordField × Item) → Option FieldError → Option RecordSays
 withdrawal_among w [] None = option_map WithdrawsNumber (number_in w)
 withdrawal_among w [] (Some fault) = None
 withdrawal_among w (field ∷ fields) fault = None
 
--- A record that lists this.
+-- What a record says that lists `digests` of an object of this name and of `segments` segments.
 abbrev pub listed_record : List Component → ℕ → List (List ℕ) → RecordSays
 listed_record name segments digests = Lists (record { name = name; segments = segments; digests = digests })
 
--- What a record says that begins with a Name and a SegmentCount: the digests follow that the number asks for.
+-- What a record says that begins with the Name `n` and the SegmentCount `c`: exactly the digests that such a record
+-- lists must follow.
 abbrev pub listing_among : Item → Item → List (RecordField × Item) → Option FieldError → Option RecordSays
 listing_among n c digests fault =
     option_and_then (λ name.
@@ -117,12 +120,12 @@ listing_among n c digests fault =
     (segment_count_in c))
     (object_name_in n)
 
--- What a record says that begins with a Name: a SegmentCount follows.
+-- What a record says that begins with the Name `n`: a SegmentCount must follow.
 abbrev pub counted_among : Item → List (RecordField × Item) → Option FieldError → Option RecordSays
 counted_among n ((field.SegmentCount, c) ∷ digests) fault = listing_among n c digests fault
 counted_among n _ fault = None
 
--- What the fields of a record say.
+-- What a record with these fields says, or None if they are no record's.
 abbrev pub stated_among : List (RecordField × Item) → Option FieldError → Option RecordSays
 stated_among ((field.Withdraws, w) ∷ fields) fault = withdrawal_among w fields fault
 stated_among ((field.Name, n) ∷ fields) fault = counted_among n fields fault
@@ -140,6 +143,6 @@ record_of content = stated_among (record_fields content).items (record_fields co
 abbrev pub index_fields : List ℕ → Listing (RecordField × Item) FieldError
 index_fields content = fields index_table (elements 0 content)
 
--- The digests of segments that the content of an index packet lists, where there are so many.
+-- The digests of segments that the index packet of this content lists, or None if it doesn't list exactly `count`.
 abbrev pub index_of : List ℕ → ℕ → Option (List (List ℕ))
 index_of content count = counted_digests false count (index_fields content)

@@ -1,4 +1,4 @@
--- What records say that are lent or have octets of their own.
+-- What a record says, borrowed or with octets of its own.
 use Rattle.std.specs.Prelude.{◌≡◌, ◌<◌, ◌≤◌, ℕ, length}
 use Rattle.repo_plan.specs.Parts.{most_listed, index_packets}
 use Rattle.repo_object.specs.declared.record_view.RecordView.{RecordView}
@@ -10,7 +10,7 @@ use Rattle.repo_object.specs.Publication.{RecordSays}
 use Rattle.repo_object.specs.Publication.RecordSays.{Lists, WithdrawsNumber}
 use Rattle.repo_object.specs.Records.{listed_record}
 
--- What a lent record says.
+-- What a borrowed record says.
 abbrev pub seen_record : RecordView → RecordSays
 seen_record (view.Lists l) = Lists l
 seen_record (view.Withdraws seq) = WithdrawsNumber seq
@@ -21,13 +21,13 @@ owned_record (owned.Lists l) = Lists l
 owned_record (owned.Withdraws seq) = WithdrawsNumber seq
 owned_record (owned.Indexed name segments digests) = listed_record name segments digests.items
 
--- It is Indexed where there are index packets, and only there.
+-- A record that lists an object is Indexed exactly if the object has more than 200 segments.
 abbrev pub IsOfItsKind : Record → Type 0
 IsOfItsKind (owned.Lists l) = l.segments ≤ most_listed
 IsOfItsKind (owned.Withdraws seq) = Unit
 IsOfItsKind (owned.Indexed name segments digests) = most_listed < segments
 
--- It is the record of an object whose index packets it lists, and part `x` is one of them.
+-- The record lists all index packets of an object within the limit of segments, and part `x` is one of them.
 abbrev pub ListsIndex : ℕ → Record → Type 0
 ListsIndex x (owned.Lists l) = ⊥
 ListsIndex x (owned.Withdraws seq) = ⊥

@@ -23,52 +23,52 @@ use Rattle.repo_object.specs.Publication.RecordSays.{Lists, WithdrawsNumber}
 use Rattle.repo_object.specs.Records.{record_of, index_of}
 use Rattle.repo_object.specs.Wants.{WantedPart}
 
--- The packet has no octets but those that are signed, and the signature after them.
+-- Whether the packet has no octets but those that are signed, and the signature after them.
 abbrev pub is_all_signed : Data → Bool
 is_all_signed d = bytes_eq d.value (d.signed ++ element types.SignatureValue d.signature)
 
--- Names are the same exactly where their octets are.
+-- Whether the packet has the name `name`. Names are the same exactly if their octets are.
 abbrev pub data_has_name : List Component → Data → Bool
 data_has_name name d = bytes_eq (encoding d.name) (encoding name)
 
--- The octets have the digest, where one is known.
+-- Whether the octets have the digest. They pass if none is known.
 abbrev pub has_digest : Option (List ℕ) → List ℕ → Bool
 has_digest None octets = true
 has_digest (Some digest) octets = bytes_eq (sha256 octets) digest
 
--- The locator is the name of these octets.
+-- Whether the key locator is a name whose octets are `key_name`.
 abbrev pub locates : List ℕ → Option (List Component) → Bool
 locates key_name None = false
 locates key_name (Some name) = bytes_eq (encoding name) key_name
 
--- The packet says that it is signed by HMAC with SHA-256 under the key of the name of these octets.
+-- Whether the packet says that it is signed by HMAC with SHA-256 under the key whose name has the octets `key_name`.
 abbrev pub names_key : List ℕ → Data → Bool
 names_key key_name d =
     d.signature_type == SignatureHmacWithSha256 && locates key_name d.locator
 
--- The signature is the mac of what is signed.
+-- Whether the signature is the mac of the signed portion under `key`.
 abbrev pub is_signed_by : List ℕ → Data → Bool
 is_signed_by key d = bytes_eq (hmac key d.signed) d.signature
 
--- The record of a publication of this number may say it: a withdrawal is of an earlier number.
+-- Whether the record of the publication of number `seq` may say this. A withdrawal must be of an earlier number.
 abbrev pub may_say : ℕ → Option RecordSays → Bool
 may_say seq None = false
 may_say seq (Some (Lists l)) = true
 may_say seq (Some (WithdrawsNumber withdrawn)) = nat_lt withdrawn seq
 
--- A content lists as many digests as it has to, where that is known.
+-- Whether `content` is that of an index packet with `count` digests. Every content passes for None.
 abbrev pub lists_as_many : Option ℕ → List ℕ → Bool
 lists_as_many None content = true
 lists_as_many (Some count) content = is_some (index_of content count)
 
--- A record's content is a record's that its publication may have, and an index packet's lists as many digests as it has
--- to.
+-- Whether the content is what the want asks for: of part 0, a record that the publication may have, and of an index
+-- packet, the number of digests that the want says.
 abbrev pub is_well_stated : WantedPart → Data → Bool
 is_well_stated want d =
     (not (want.part.part == 0) || may_say want.part.seq (record_of d.content)) && lists_as_many want.lists d.content
 
--- The packet, where it passes for the want under the publisher's key of that name, or the first
--- reason why not.
+-- The packet `d` if it passes for the want under the publisher's key `key` of name `key_name`, or the first reason why
+-- not.
 abbrev pub packet_verdict : WantedPart → List ℕ → List ℕ → List ℕ → Data → Result Data PartRefusal
 packet_verdict want key_name key octets d =
     if not (is_all_signed d) then Err UnsignedOctets
@@ -79,17 +79,18 @@ packet_verdict want key_name key octets d =
     else if not (is_well_stated want d) then Err BadRecord
     else Ok d
 
--- A packet, where it was read.
+-- A packet that was read, or the refusal of octets that are no Data packet.
 abbrev pub read_packet : Result Data PacketFault → Result Data PartRefusal
 read_packet (Ok d) = Ok d
 read_packet (Err fault) = Err (Packet fault)
 
--- Octets pass for a wanted part, as the packet that they are, or this is the first reason why not.
+-- The packet that `octets` are if it passes for the want under the key `key` of name `key_name`, or the first reason
+-- why not.
 abbrev pub part_verdict : WantedPart → List ℕ → List ℕ → List ℕ → Result Data PartRefusal
 part_verdict want key_name key octets =
     read_packet (data_of octets) >>= packet_verdict want key_name key octets
 
--- What it means that octets pass, as the packet `d`.
+-- What it means that `octets` pass for `want` as the packet `d`.
 pub record Passes (want : WantedPart) (key_name key octets : List ℕ) (d : Data) : Type 0 where
   pub read : data_of octets ≡ Ok d
   pub all_signed : IsAllSigned d
@@ -112,15 +113,15 @@ pub record CheckedPart : Type 0 where
   pub key_name : List ℕ
   pub key : List ℕ
 
--- It passes for its want under its publisher's key.
+-- The part `c` passes for its want under its publisher's key.
 abbrev pub IsChecked : CheckedPart → Type 0
 IsChecked c = IsOk (part_verdict c.want c.key_name c.key c.octets)
 
--- The key of a number in the ring.
+-- The key at place `number` in the ring, with its name. Both are empty if there is none.
 abbrev pub key_at : List NamedKey → ℕ → NamedKey
 key_at ring number = unwrap_or (slice_get ring number) (pair [] [])
 
--- The key of a want's publisher.
+-- The key of a want's publisher in the ring, with its name.
 abbrev pub publisher_key : List NamedKey → WantedPart → NamedKey
 publisher_key ring want = key_at ring want.part.publisher
 
@@ -134,24 +135,24 @@ checked_part want ring octets =
       key = (publisher_key ring want).key;
     }
 
--- The verdict under the key that the ring has at the publisher's number.
+-- The verdict on `octets` for `want` under the key that the ring has at the publisher's number.
 abbrev pub ring_verdict : WantedPart → List NamedKey → List ℕ → Result Data PartRefusal
 ring_verdict want ring octets =
     part_verdict want (publisher_key ring want).name (publisher_key ring want).key octets
 
--- The content of a packet, where it was read.
+-- The content of a packet that was read, or None for a fault.
 abbrev pub content_within : Result Data PacketFault → Option (List ℕ)
 content_within (Ok d) = Some d.content
 content_within (Err fault) = None
 
--- The content of the packet that the octets are.
+-- The content of the Data packet `octets`, or None if they are no Data packet.
 abbrev pub content_in : List ℕ → Option (List ℕ)
 content_in octets = content_within (data_of octets)
 
--- What the record that the octets are says.
+-- What the Data packet `octets` says as a record, or None if it is no record.
 abbrev pub stated_in : List ℕ → Option RecordSays
 stated_in octets = option_and_then record_of (content_in octets)
 
--- The digests that the index packet that the octets are lists, where there are so many.
+-- The digests that the Data packet `octets` lists as an index packet, or None if it isn't one with `count` digests.
 abbrev pub index_in : List ℕ → ℕ → Option (List (List ℕ))
 index_in octets count = option_and_then (λ content. index_of content count) (content_in octets)

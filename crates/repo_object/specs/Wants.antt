@@ -26,7 +26,7 @@ abbrev pub asked_name : List Component → Option (List ℕ) → List Component
 asked_name name None = name
 asked_name name (Some digest) = full_name name digest
 
--- The want of a packet of this name and digest: its Interest asks for that.
+-- The want of a packet of this name and, if it is known, of this digest. Its Interest asks for just that.
 abbrev pub wanted_part : Part → List Component → Option (List ℕ) → Option ℕ → WantedPart
 wanted_part part name digest lists =
     record {
@@ -41,7 +41,7 @@ wanted_part part name digest lists =
 abbrev pub want_record : Part → List Component → List Component → WantedPart
 want_record part node group = wanted_part part (record_name node group part.seq) None None
 
--- How many of so many segments index packet `k` lists, counted from 0.
+-- How many of an object's `segments` segments index packet `k`, counted from 0, lists.
 abbrev pub listed_in : ℕ → ℕ → ℕ
 listed_in segments k = min most_listed (segments - k * most_listed)
 
@@ -65,30 +65,30 @@ want_segment part shape name digest =
 
 -- ---- wants as they are kept
 
--- How an Interest begins that asks for a name of so many octets and says nothing else.
+-- How an Interest begins that asks for a name of `asked` octets and says nothing else.
 abbrev pub interest_prefix : ℕ → List ℕ
 interest_prefix asked = head types.Interest (length (head types.Name asked) + asked) ++ head types.Name asked
 
--- The component of a digest after a name, where there is one.
+-- The octets of the component that a known digest adds to a name, and no octets for None.
 abbrev pub digest_component : Option (List ℕ) → List ℕ
 digest_component None = []
 digest_component (Some digest) = element types.ImplicitSha256DigestComponent digest
 
--- The octets of the name that an Interest asks for, which begin and end at these places.
+-- The octets of the Interest from `start` to `end`, which are those of the packet's name.
 abbrev pub name_between : List ℕ → ℕ → ℕ → List ℕ
 name_between interest start end = drop start (take end interest)
 
--- The digest that ends the Interest, where one does: two octets of its component stand between the name and it.
+-- The digest that ends the Interest if `has_digest`. Two octets of its component stand between the name and the digest.
 abbrev pub digest_after : List ℕ → ℕ → Bool → Option (List ℕ)
 digest_after interest end has_digest = if has_digest then Some (drop (end + 2) interest) else None
 
--- A name of these octets and a digest, if one is known, of which a want can be made.
+-- A want can be made of a name of these octets and of `digest`, if it is known: they are within the limits.
 pub record IsExpected (octets : List ℕ) (digest : Option (List ℕ)) : Type 0 where
   pub spelled : IsSpelled octets
   pub short : length octets ≤ 900
   pub long : IfSome digest (λ d. length d ≡ 32)
 
--- The Interest is written of the name that stands between these places, and of the digest after it.
+-- The Interest asks for the name that stands in it from `start` to `end` and, if `has_digest`, for the digest after it.
 pub record WantIsWritten (interest : List ℕ) (start end : ℕ) (has_digest : Bool) : Type 0 where
   pub name : IsName (components (name_between interest start end))
   pub spelled : name_between interest start end ≡ encoding (components (name_between interest start end))

@@ -17,12 +17,12 @@ digest = replicate 32 7
 abbrev small : RecordSays
 small = Lists (record { name = doc; segments = 1; digests = digest ∷ [] })
 
--- The record of one of 201 segments, which lists two index packets.
+-- The record of an object of 201 segments, which lists two index packets.
 abbrev large : RecordSays
 large = Lists (record { name = doc; segments = 201; digests = digest ∷ digest ∷ [] })
 
--- Records of each kind are read back, and contents with elements of two kinds are none. Nor is a withdrawal of number
--- 0, nor nothing at all.
+-- Records of each kind are read back. A content with elements of two kinds, a withdrawal of number 0 and the empty
+-- content are read as no record.
 pub record RecordsAreReadSo : Type 0 where
   pub withdrawal : record_content (WithdrawsNumber 1) ≡ 133 ∷ 1 ∷ 1 ∷ []
   pub withdrawn : record_of (133 ∷ 1 ∷ 1 ∷ []) ≡ Some (WithdrawsNumber 1)
@@ -33,7 +33,8 @@ pub record RecordsAreReadSo : Type 0 where
   pub both_ways : record_of (133 ∷ 1 ∷ 1 ∷ record_content small) ≡ None
   pub nothing : record_of [] ≡ None
 
--- An index packet is read as one of as many digests as it lists, and a record is none.
+-- An index packet with two digests is read as one with two, one with a single digest isn't, and a record is no index
+-- packet.
 pub record IndexPacketsAreReadSo : Type 0 where
   pub two : index_of (index_content (digest ∷ digest ∷ [])) 2 ≡ Some (digest ∷ digest ∷ [])
   pub fewer : index_of (index_content (digest ∷ [])) 2 ≡ None

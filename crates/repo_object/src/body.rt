@@ -17,7 +17,7 @@ struct Place {
     end: u16,
 }
 
-// The octets of a packet that is shared, with what is read of them once.
+// The octets of a shared packet, with their digest and the places of the packet's name and content.
 #[derive(Debug, Drop)]
 pub(crate) struct Body {
     octets: Vec<u8>,
@@ -26,7 +26,7 @@ pub(crate) struct Body {
     content: Place,
 }
 
-// It is seen as the octets.
+// A body is seen as its octets.
 impl Model for Body {
     ghost use Rattle.std.specs.Prelude.{◌≡◌, ℕ, List};
     ghost use Rattle.repo_object.specs.Bodies.{IsBody};
@@ -39,7 +39,7 @@ impl Model for Body {
 }
 
 impl Body {
-    // The octets with their digest, which is taken here where it isn't known.
+    // The body of these octets. Their digest is computed here if `known` is `None`.
     pub(crate) fn new(octets: Vec<u8>, known: Option<&[u8; 32]>) -> Body
         requires data { IsOk (data_of octets.items) }
         requires digest { IfSome known (λ digest. digest.now ≡ sha256 octets.items) }
@@ -81,7 +81,7 @@ impl Body {
     }
 }
 
-// The digest of octets, which is taken where it isn't known.
+// The digest of `octets`, which is computed here if `known` is `None`.
 fn digest_known(octets: &[u8], known: Option<&[u8; 32]>) -> [u8; 32]
     requires { IfSome known (λ digest. digest.now ≡ sha256 octets.now) }
     ensures { result ≡ sha256 octets.now }
@@ -106,7 +106,7 @@ fn content_place(octets: &[u8]) -> Place
     place_of(octets, types::CONTENT)
 }
 
-// Where the value of a Data packet's first field of this type lies, and an empty place where there is none.
+// The place of the value of a Data packet's first field of type `typ`, or an empty place if it has none.
 fn place_of(octets: &[u8], typ: u32) -> Place
     requires { IsOk (data_of octets.now) }
     ensures { LiesAt octets.now result (first_value typ octets.now) }
@@ -122,7 +122,7 @@ fn place_of(octets: &[u8], typ: u32) -> Place
     }
 }
 
-// The first of some elements that is of this type.
+// The first of `elements` that is of type `typ`, or `None`.
 fn first_of_type<'p>(typ: u32, elements: Reader<'p>) -> Option<Element<'p>>
     ensures { option_map item result ≡ first_of_type typ elements.entry.items }
 {

@@ -23,7 +23,7 @@ pub struct Checked<'p> {
     key: &'p [u8],
 }
 
-// Whether its octets were checked as a packet shows in no clause.
+// No clause says whether the octets were checked alone or as those of a packet.
 impl<'p> Model for Checked<'p> {
     ghost use Rattle.repo_object.specs.Shown.{octets_shown};
     ghost use Rattle.repo_object.specs.Verdict.{CheckedPart, IsChecked};
@@ -45,8 +45,8 @@ impl<'p> Model for Checked<'p> {
     }) };
 }
 
-/// The octets as a packet that passes for the want under the key that the ring has at its publisher's
-/// number, or the first reason why they don't. It allocates nothing.
+/// The octets as a packet that passes for the want under the key that the ring has at its publisher's number, or the
+/// first reason why they don't. It allocates nothing.
 pub fn check_part<'p>(
     want: &'p Want,
     octets: &'p [u8],
@@ -61,7 +61,8 @@ pub fn check_part<'p>(
     check(want, Shown::Octets(octets), ring)
 }
 
-/// The same of a packet, which may then be shared. Its digest isn't taken again.
+/// The packet as one that passes for the want, by the checks of [`check_part`], or the first reason why it doesn't. The
+/// digest of a shared packet isn't computed again.
 pub fn check_packet<'p>(
     want: &'p Want,
     packet: &'p Packet,
@@ -76,7 +77,7 @@ pub fn check_packet<'p>(
     check(want, Shown::Packet(packet), ring)
 }
 
-// The same of either.
+// The octets or the packet of `shown` as a packet that passes for the want, or the first reason why they don't.
 fn check<'p>(
     want: &'p Want,
     shown: Shown<'p>,

@@ -14,7 +14,7 @@ use ndn_tlv::{Writer, types};
 use repo_plan::Shape;
 use std::alloc::{AllocError, Global};
 
-// The content of the record of an object of this name and of so many segments, which lists these digests.
+// The content of the record of an object of this name and of `segments` segments, which lists these digests.
 pub(crate) fn listing_content(
     alloc: Global,
     name: &Name,
@@ -45,7 +45,7 @@ pub(crate) fn index_content(alloc: Global, digests: &[[u8; 32]]) -> Result<Vec<u
     Ok(writer.finish())
 }
 
-// The content of the record that withdraws the publication of that number.
+// The content of the record that withdraws the publication of number `withdrawn`.
 pub(crate) fn withdrawal_content(alloc: Global, withdrawn: u16) -> Result<Vec<u8>, AllocError>
     ensures { IfOk result (λ content. content.items ≡ record_content (WithdrawsNumber withdrawn)) }
 {
@@ -54,7 +54,7 @@ pub(crate) fn withdrawal_content(alloc: Global, withdrawn: u16) -> Result<Vec<u8
     Ok(writer.finish())
 }
 
-// The type of the elements in which the record of so many segments lists digests.
+// The type of the elements in which the record of an object of `segments` segments lists digests.
 fn digest_type(segments: u16) -> u32
     requires { segments ≤ segment_limit }
     ensures same { result ≡ digest_type segments }

@@ -12,7 +12,7 @@ use thiserror::Error;
 /// Why a content was not cut.
 #[derive(Clone, Copy, Debug, PartialEq, Eq, Error)]
 pub enum CutFault {
-    /// It would make so many segments, which is above 20,000.
+    /// The content would make `segments` segments, which is above 20,000.
     #[error("the content makes {segments} segments")]
     TooMany { segments: usize },
     #[error("out of memory")]
@@ -48,7 +48,7 @@ pub fn cut(alloc: Global, content: &[u8], size: usize) -> Result<Vec<Vec<u8>>, C
     Ok(cut_into(alloc, content, size, segments)?)
 }
 
-// The content in so many pieces.
+// The content in `segments` pieces of `size` octets, the last of which may be shorter.
 fn cut_into(
     alloc: Global,
     content: &[u8],

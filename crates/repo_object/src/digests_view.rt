@@ -9,18 +9,18 @@ use ndn_packet::DIGEST_ELEMENT_LEN;
 use std::alloc::{AllocError, Global};
 use std::marker::Model;
 
-/// The digests that a record or an index packet lists, in octets that are lent.
+/// The digests that a record or an index packet lists, in borrowed octets.
 ///
-/// Nothing of them is copied; a digest is looked for where it is asked for: at its place where only digests stand
-/// there, and else from the first one on.
+/// The digests are not copied. [`DigestsView::get`] reads a digest at its place if the octets have digests alone, and
+/// else reads all digests up to it.
 #[derive(Debug, Drop)]
 pub struct DigestsView<'p> {
     digests: DigestReader<'p>,
-    // Octets that hold the digests: a row of them, where nothing else stands there.
+    // The octets that have the digests: one after another, if they have nothing else.
     row: &'p [u8],
 }
 
-// They are seen as the list of the digests.
+// A view is seen as the list of its digests.
 impl<'p> Model for DigestsView<'p> {
     ghost use Rattle.std.specs.Prelude.{ℕ, List};
     ghost use Rattle.repo_object.specs.Readers.{digests_left, DigestsAreRead};
@@ -33,7 +33,7 @@ impl<'p> Model for DigestsView<'p> {
 }
 
 impl<'p> DigestsView<'p> {
-    // The digests that a reader still has, if they are all there.
+    // The digests that the reader `digests` has still to read, or `None` if they aren't all there.
     pub(crate) fn read(digests: DigestReader<'p>, row: &'p [u8]) -> Option<DigestsView<'p>>
         requires { IsSome (remaining_digests digests) → IsRow row.now digests }
         ensures { result ≡ remaining_digests digests.entry }
@@ -44,7 +44,7 @@ impl<'p> DigestsView<'p> {
         Some(DigestsView { digests, row })
     }
 
-    // The same, where they are known to be there. They are not gone over.
+    // The digests that the reader `digests` has still to read, which are known to be all there. They are not read here.
     pub(crate) fn known(digests: DigestReader<'p>, row: &'p [u8]) -> DigestsView<'p>
         requires all { IsSome (remaining_digests digests) }
         requires row { IsSome (remaining_digests digests) → IsRow row.now digests }
@@ -53,14 +53,14 @@ impl<'p> DigestsView<'p> {
         DigestsView { digests, row }
     }
 
-    // The digests that a content lists as that of an index packet of so many.
+    // The digests that `content` lists as an index packet's, or `None` if it isn't that of one with `count` digests.
     pub(crate) fn of_index(content: &'p [u8], count: u16) -> Option<DigestsView<'p>>
         ensures { result ≡ index_of content.now count }
     {
         DigestsView::read(DigestReader::of_index(content, count), content)
     }
 
-    /// The digests of segments that a packet lists which is known to be an index packet of so many.
+    /// The digests of segments that an index packet lists, which is known to list `count`.
     pub fn in_index(packet: &'p [u8], count: u16) -> DigestsView<'p>
         requires { IsSome (index_in packet.now count) }
         ensures { index_in packet.now count ≡ Some result }
@@ -76,12 +76,12 @@ impl<'p> DigestsView<'p> {
         usize::from(self.digests.left())
     }
 
-    /// The digest at a place, counted from 0, or `None` where there are no more than so many.
+    /// The digest at place `i`, counted from 0, or `None` if there are no more than `i` digests.
     pub fn get(&self, i: usize) -> Option<&'p [u8; 32]>
         ensures { option_map (λ digest. digest.now) result ≡ slice_get self.now i }
     {
         let count = usize::from(self.digests.left());
-        // Where nothing else has room, only digests stand there, each after one octet of type and one of length.
+        // If nothing else has room, the digests stand alone there, each after one octet of type and one of length.
         if i < count && self.row.len() == DIGEST_ELEMENT_LEN * count {
             let (_, digest) = self.row.split_at(DIGEST_ELEMENT_LEN * i + 2);
             return digest.first_chunk();
@@ -89,7 +89,7 @@ impl<'p> DigestsView<'p> {
         self.digests.copy().at(i)
     }
 
-    // The digests with octets of their own.
+    // The digests, copied.
     pub(crate) fn to_vec(&self, alloc: Global) -> Result<Vec<[u8; 32]>, AllocError>
         ensures { IfOk result (λ read. read.items ≡ self.now) }
     {
@@ -97,7 +97,7 @@ impl<'p> DigestsView<'p> {
     }
 }
 
-// The digests that are still to come, which are all there.
+// The digests that the reader `digests` has still to read, which are all there, copied.
 fn read_digests(alloc: Global, mut digests: DigestReader<'_>) -> Result<Vec<[u8; 32]>, AllocError>
     requires { IsSome (remaining_digests digests) }
     ensures { IfOk result (λ read. read.items ≡ digests_left digests.entry) }

@@ -19,7 +19,7 @@ use repo_plan::{Part, Shape};
 use std::alloc::{AllocError, Global};
 use std::marker::Model;
 
-/// What the packet of a part must be, as a want says it, in names and digests that are lent. It has no Interest, so it
+/// What the packet of a part must be: what a want says, in borrowed names and digests. It has no Interest, so it
 /// allocates nothing.
 #[derive(Drop)]
 pub struct Expected<'w> {
@@ -30,7 +30,7 @@ pub struct Expected<'w> {
     digest: Option<&'w [u8; 32]>,
 }
 
-// It is seen as the want that says so.
+// An `Expected` is seen as the want that says the same.
 impl<'w> Model for Expected<'w> {
     ghost use Rattle.std.specs.Prelude.{option_map};
     ghost use Rattle.ndn_name.specs.Names.{components};
@@ -45,7 +45,7 @@ impl<'w> Model for Expected<'w> {
 }
 
 impl<'w> Expected<'w> {
-    /// The record of a publication of that node in that group.
+    /// What the record of publication `part.seq` of `node` in `group` must be.
     pub fn record(part: Part, node: &'w Name, group: &'w Name) -> Expected<'w>
         requires part { part.part ≡ 0 }
         requires node { length (encoding node.now) ≤ node_name_limit }
@@ -65,7 +65,8 @@ impl<'w> Expected<'w> {
         }
     }
 
-    // An index packet of this digest, of a publication of so many segments.
+    // What the index packet `part` with the digest `listed` must be, of a publication of `segments` segments by `node`
+    // in `group`.
     pub(crate) fn of_index(
         part: Part,
         segments: u16,
@@ -94,7 +95,8 @@ impl<'w> Expected<'w> {
         }
     }
 
-    // A segment of this digest.
+    // What the segment `part` with the digest `digest` must be, of an object of this name, whose publication has this
+    // shape.
     pub(crate) fn of_segment(
         part: Part,
         shape: Shape,
@@ -118,7 +120,7 @@ impl<'w> Expected<'w> {
         }
     }
 
-    // What a kept want says, whose name has these octets.
+    // What a want says whose packet's name has the octets `name`.
     pub(crate) fn kept(
         part: Part,
         lists: Option<u16>,
@@ -141,14 +143,14 @@ impl<'w> Expected<'w> {
         }
     }
 
-    /// The want that says so, with its Interest.
+    /// The want that says the same, with its Interest.
     pub fn to_want(&self, alloc: Global) -> Result<Want, AllocError>
         ensures { IfOk result (λ want. want ≡ self.now) }
     {
         Want::written(alloc, self.part, self.lists, &self.name, self.digest)
     }
 
-    /// The packet's digest, where it is known: of every part but a record it is.
+    /// The packet's digest, if it is known. It is known of every part but a record.
     pub fn digest(&self) -> Option<&'w [u8; 32]>
         ensures { option_map (λ digest. digest.now) result ≡ self.now.digest }
     {
@@ -166,7 +168,7 @@ impl<'w> Expected<'w> {
         self.check_shown(&Shown::Octets(octets), ring)
     }
 
-    // The same of what is shown.
+    // Whether the octets or the packet of `shown` are the packet that is expected, or the first reason why not.
     pub(crate) fn check_shown(&self, shown: &Shown<'_>, ring: &KeyRing) -> Result<(), PartRefusal>
         requires { self.now.part.publisher < length ring.now }
         ensures { MatchResult result
@@ -177,7 +179,7 @@ impl<'w> Expected<'w> {
         evaluate(self, ring, self.part.publisher, shown, &data)
     }
 
-    // The part.
+    // The part whose packet is expected.
     pub(crate) fn part(&self) -> Part
         ensures { result ≡ self.now.part }
     {
@@ -198,7 +200,7 @@ impl<'w> Expected<'w> {
         self.name.is(view.name.octets())
     }
 
-    // Whether what is shown has the expected digest, where one is known.
+    // Whether the octets of `shown` have the expected digest. They pass if none is known.
     pub(crate) fn has_digest(&self, shown: &Shown<'_>) -> bool
         ensures { result ≡ has_digest self.now.digest (octets_shown shown.now) }
     {

@@ -33,7 +33,7 @@ ghost use Rattle.repo_object.specs.Cuts.{pieces, AreCut};
 use crate::names::NODE_NAME_LIMIT;
 use crate::object::{CONTENT_LIMIT, MOST_LISTED, OBJECT_NAME_LIMIT, SEGMENT_LIMIT};
 
-/// The limits are those of the definitions.
+/// The limits in code are those of the definitions.
 pub fn limits_are_the_definitions()
     ensures node_name { NODE_NAME_LIMIT ≡ node_name_limit }
     ensures object_name { OBJECT_NAME_LIMIT ≡ object_name_limit }
@@ -42,14 +42,15 @@ pub fn limits_are_the_definitions()
     ensures content { CONTENT_LIMIT ≡ content_limit }
 {}
 
-/// The pieces of a content are the content, one after another. Each but the last has `size` octets,
-/// and none is empty or longer.
+/// The pieces of a content, one after another, are the content. Each but the last has `size` octets, and none is empty
+/// or longer.
 pub fn cut_pieces_are_the_content()
     ensures { (size : ℕ) (content : List ℕ) → 0 < size → AreCut size content (pieces size content) }
 {}
 
-/// A record says what its fields say: a Name, a SegmentCount and as many digests as that asks for, or Withdraws alone,
-/// within the limits. An index packet lists Digests alone, and is read as that of as many as there are.
+/// A record says what its fields say, within the limits: a Name, a SegmentCount and the digests that a record of that
+/// many segments lists, or Withdraws alone. An index packet lists Digests alone, and is read as one of `count` digests
+/// exactly if it has `count`.
 pub fn records_are_what_their_fields_say()
     ensures fields { (content : List ℕ) (says : RecordSays) → (record_of content ≡ Some says) ↔ HasStated content says }
     ensures within { (content : List ℕ) (says : RecordSays) → IsOctets content → length content < 2 ^ 64
@@ -58,8 +59,8 @@ pub fn records_are_what_their_fields_say()
         → (index_of content count ≡ Some digests) ↔ (HasIndex content digests × (length digests ≡ count)) }
 {}
 
-/// Fields of one kind of record, which no fault ends, are read by the table of all kinds exactly where the order table
-/// of that kind alone reads them.
+/// Fields of one kind of record, without a fault, are read from a content by the table of all kinds exactly if the
+/// order table of that kind alone reads them.
 pub fn each_kind_has_its_own_table()
     ensures { (kind : Kind) (content : List ℕ) (items : List (RecordField × Item))
         → All (λ x. IsTrue (is_of_kind kind x.0)) items
@@ -67,18 +68,18 @@ pub fn each_kind_has_its_own_table()
         ↔ (fields (kind_table kind) (elements 0 content) ≡ record { items = items; fault = None }) }
 {}
 
-/// Small records of each kind are read so, and contents that are none.
+/// Small records of each kind, and contents that are no record's, are read as `RecordsAreReadSo` says.
 pub fn records_are_read_so()
     ensures { RecordsAreReadSo }
 {}
 
-/// Small index packets are read so.
+/// Small contents are read as index packets as `IndexPacketsAreReadSo` says.
 pub fn index_packets_are_read_so()
     ensures { IndexPacketsAreReadSo }
 {}
 
-/// Octets pass for a want as a packet exactly where they pass every check. A record that passes says what it may, and
-/// an index packet lists as many digests as it has to.
+/// Octets pass for a want as a packet exactly if they pass every check. A record that passes says what its
+/// publication's record may say, and an index packet that passes lists as many digests as the want says.
 pub fn passing_is_every_check()
     ensures checks { (want : WantedPart) (key_name key octets : List ℕ) (d : Data)
         → (part_verdict want key_name key octets ≡ Ok d) ↔ Passes want key_name key octets d }
@@ -100,8 +101,8 @@ pub fn packets_fit()
         → packet_at publisher seq post x ≡ Some octets → length octets ≤ packet_limit }
 {}
 
-/// The record of a publication says what was written, and with that the publication's shape; an index packet lists the
-/// digests of its segments, and the packet of a segment has that segment's content.
+/// The record of a publication is read as what was written, and it says the publication's part counts. An index packet
+/// lists the digests of its segments, and the packet of a segment has that segment's content.
 pub fn packets_are_read_back()
     ensures records { (publisher : Publisher) (seq : ℕ) (post : Post)
         → IsPublisher publisher → IsPost seq post → seq < 2 ^ 16
@@ -120,8 +121,8 @@ pub fn packets_are_read_back()
         → content_in octets ≡ slice_get object.contents i }
 {}
 
-/// In a group, records with the same name are of the same node and number. Packets that are numbered under a name have
-/// the same name where their numbers and those names are the same, and no record's name.
+/// In a group, records with the same name are of the same node and number. Packets that are numbered under names have
+/// the same name only if those names and the packets' numbers are the same, and none has a record's name.
 pub fn names_tell_parts_apart()
     ensures records { (node other group : List Component) (seq second : ℕ)
         → seq < 2 ^ 16 → second < 2 ^ 16
@@ -154,9 +155,9 @@ pub fn packets_pass_for_their_wants()
         (encoding (key_name publisher.node)) publisher.key octets) }
 {}
 
-/// Of the packets of a group's publications, none passes for the want of a record but that of the same node and number.
-/// None passes for the want of a part after a record but such as have its name and digest: where those tell packets
-/// apart, it is the part's.
+/// Of the packets of a group's publications, only the record of the same node and number passes for the want of a
+/// record. Only the part's own octets pass for the want of an index packet or a segment, if the two publications are
+/// free of collisions.
 pub fn packets_that_pass_are_the_parts()
     ensures records { (own other : Publisher) (part : Part) (theirs : Post) (seq x : ℕ)
         (key_name key octets : List ℕ)
@@ -190,8 +191,8 @@ pub fn packets_that_pass_are_the_parts()
         → octets ≡ packet }
 {}
 
-/// A packet that passes for a want is one that the want's Interest asks for, by its name or where the
-/// digest is known by its full name.
+/// A packet that passes for a want is one that the want's Interest asks for, by its name or, if the digest is known, by
+/// its full name.
 pub fn passing_packets_are_asked_for()
     ensures { (want : WantedPart) (key_name key octets : List ℕ) (d : Data)
         → Passes want key_name key octets d → IsName want.name → IsName d.name

@@ -13,8 +13,8 @@ use repo_plan::{Part, Shape};
 use std::alloc::{AllocError, Global};
 use std::marker::Model;
 
-/// What the record of an object lists, in octets that are lent: the object's name, how many segments it has, and
-/// digests, of the index packets where there are some, and else of the segments' packets.
+/// What the record of an object lists, in borrowed octets: the object's name, how many segments it has, and digests, of
+/// the index packets if there are any, and else of the segments' packets.
 #[derive(Debug, Drop)]
 pub struct ListingView<'p> {
     name: NameView<'p>,
@@ -70,7 +70,7 @@ impl<'p> ListingView<'p> {
         Shape::of(self.segments)
     }
 
-    /// The digests: of the index packets where there are some, and else of the segments' packets.
+    /// The digests: of the index packets if there are any, and else of the segments' packets.
     pub fn digests(&self) -> &DigestsView<'p>
         ensures same { result.now ≡ self.now.digests }
         ensures within { IsListing self.now }
@@ -78,15 +78,15 @@ impl<'p> ListingView<'p> {
         &self.digests
     }
 
-    /// How many digests index packet `k` lists, counted from 0: those of the 200 segments from place `200 k` on, or of
-    /// as many as there are.
+    /// How many digests index packet `k`, counted from 0, lists: those of the 200 segments from place `200 k` on, or of
+    /// fewer where the object ends before.
     pub fn listed_in(&self, k: u16) -> u16
         ensures { result ≡ listed_in self.now.segments k }
     {
         listed_in(self.segments, k)
     }
 
-    /// What an index packet must be that the record lists, of a node of a group.
+    /// What the index packet `part` must be, which the record lists, of a publication by `node` in `group`.
     pub fn index<'w>(&'w self, part: Part, node: &'w Name, group: &'w Name) -> Expected<'w>
         requires listed { IsListedIndex part self.now }
         requires node { length (encoding node.now) ≤ node_name_limit }
@@ -97,7 +97,7 @@ impl<'p> ListingView<'p> {
         Expected::of_index(part, self.segments, digest, node, group)
     }
 
-    /// What a segment must be whose digest the record or an index packet lists.
+    /// What the segment `part` must be, whose digest the record or an index packet lists.
     pub fn segment<'w>(&'w self, part: Part, digest: &'w [u8; 32]) -> Expected<'w>
         requires segment { (shape_of_segments self.now.segments).index < part.part }
         ensures { result ≡ want_segment part (shape_of_segments self.now.segments) self.now.name digest.now }
@@ -105,7 +105,7 @@ impl<'p> ListingView<'p> {
         Expected::of_segment(part, self.shape(), &self.name, digest)
     }
 
-    /// The want of an index packet that the record lists, of a node of a group.
+    /// The want of the index packet `part`, which the record lists, of a publication by `node` in `group`.
     pub fn want_index(
         &self,
         alloc: Global,
@@ -121,7 +121,7 @@ impl<'p> ListingView<'p> {
         self.index(part, node, group).to_want(alloc)
     }
 
-    /// The want of a segment, whose digest is listed by the record or by an index packet.
+    /// The want of the segment `part`, whose digest the record or an index packet lists.
     pub fn want_segment(
         &self,
         alloc: Global,

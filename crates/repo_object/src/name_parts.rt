@@ -17,7 +17,7 @@ pub(crate) struct NameParts<'n> {
     pub(crate) segment: Option<u16>,
 }
 
-// The types of the components that are numbers, as those of elements.
+// The types of the components whose values are numbers, as types of elements.
 const SEQUENCE_NUM: u32 = types::SEQUENCE_NUM_NAME_COMPONENT as u32;
 
 const SEGMENT: u32 = types::SEGMENT_NAME_COMPONENT as u32;
@@ -32,7 +32,7 @@ impl NameParts<'_> {
         self.first.len() + self.second.len() + numbers
     }
 
-    // Whether these are the name's octets. It allocates nothing.
+    // Whether `octets` are the name's octets. It allocates nothing.
     pub(crate) fn is(&self, octets: &[u8]) -> bool
         ensures { result ≡ bytes_eq octets.now (spelled self.now) }
     {
@@ -62,7 +62,7 @@ impl NameParts<'_> {
     }
 }
 
-// How many octets a component of this type has that is a number, where there is one.
+// How many octets the component of type `typ` has whose value is `number`: 0 for `None`.
 fn number_len(typ: u32, number: Option<u16>) -> usize
     ensures exact { result ≡ length (numbered typ number) }
     ensures small { result ≤ 26 }
@@ -73,7 +73,7 @@ fn number_len(typ: u32, number: Option<u16>) -> usize
     }
 }
 
-// Appends that component, where there is one.
+// Appends the component of type `typ` whose value is `number`, and nothing for `None`.
 fn put_number(writer: &mut Writer, typ: u32, number: Option<u16>) -> Result<(), AllocError>
     requires { 0 < typ }
     ensures { OnOk result (writer.new ≡ writer.old ++ numbered typ number) }
@@ -84,7 +84,7 @@ fn put_number(writer: &mut Writer, typ: u32, number: Option<u16>) -> Result<(), 
     }
 }
 
-// What follows this prefix, where the octets begin so.
+// The octets after `prefix`, or `None` if `octets` don't begin with it.
 fn after<'o>(octets: &'o [u8], prefix: &[u8]) -> Option<&'o [u8]>
     ensures { MatchOption result ((rest : List ℕ) → octets.now ≢ prefix.now ++ rest)
         (λ rest. octets.now ≡ prefix.now ++ rest.now) }
@@ -92,7 +92,7 @@ fn after<'o>(octets: &'o [u8], prefix: &[u8]) -> Option<&'o [u8]>
     octets.strip_prefix(prefix)
 }
 
-// What follows this component, where the octets begin so.
+// The octets after the component of type `typ` and of this value, or `None` if `octets` don't begin with it.
 fn after_component<'o>(octets: &'o [u8], typ: u8, value: &[u8]) -> Option<&'o [u8]>
     requires typ { typ < 253 }
     requires short { length value.now < 253 }
@@ -105,7 +105,8 @@ fn after_component<'o>(octets: &'o [u8], typ: u8, value: &[u8]) -> Option<&'o [u
     after(rest, value)
 }
 
-// What follows the component of this type that is a number, where there is one and the octets begin so.
+// The octets after the component of type `typ` whose value is `number`, or `None` if `octets` don't begin with it.
+// Without a number they are all octets.
 fn after_number(octets: &[u8], typ: u8, number: Option<u16>) -> Option<&[u8]>
     requires { typ < 253 }
     ensures { MatchOption result ((rest : List ℕ) → octets.now ≢ numbered typ number ++ rest)

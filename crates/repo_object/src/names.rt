@@ -21,7 +21,7 @@ pub fn key_name(node: &Name) -> Result<Name, AllocError>
     Ok(name)
 }
 
-// The name of the record of a publication of that number.
+// The name of the record of publication `seq` of `node` in `group`.
 pub(crate) fn record_name(node: &Name, group: &Name, seq: u16) -> Result<Name, AllocError>
     requires node { length (encoding node.now) ≤ node_name_limit }
     requires group { length (encoding group.now) ≤ node_name_limit }
@@ -44,7 +44,7 @@ pub(crate) fn segment_name(mut name: Name, i: u16) -> Result<Name, AllocError>
     Ok(name)
 }
 
-// Appends the components of another name.
+// Appends the components of the name `more`.
 fn append(name: &mut Name, more: &Name) -> Result<(), AllocError>
     requires { length (encoding name.old) + length (encoding more.now) ≤ NAME_LIMIT }
     ensures { OnOk result (name.new ≡ name.old ++ more.now) }

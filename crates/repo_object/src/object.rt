@@ -32,7 +32,7 @@ pub struct Object {
     contents: Vec<Vec<u8>>,
 }
 
-// An object is dropped by one call, which is proved once, and not field by field wherever one is left.
+// An object is dropped by one call, which is proved once, and not field by field wherever one goes out of scope.
 impl Drop for Object {
     fn drop(self) {
         let Object {
@@ -122,7 +122,7 @@ pub fn is_object_name(name: &NameView<'_>) -> bool
     0 < octets && octets <= OBJECT_NAME_LIMIT && has_no_digest(name)
 }
 
-// The greater of the types of digests, which are the least types that there are.
+// The greater of the two types of components that are digests. These two are the least types that there are.
 const GREATEST_DIGEST: u32 = types::PARAMETERS_SHA256_DIGEST_COMPONENT as u32;
 
 // Whether no component of the name is a digest.

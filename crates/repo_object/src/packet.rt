@@ -10,28 +10,28 @@ use std::alloc::{AllocError, Global};
 use std::marker::Model;
 use std::sync::Arc;
 
-// A packet that is kept by itself, or one that others may hold too, with what is read of it once.
+// The octets of a packet alone, or a body that packets share, with its digest and the places of its name and content.
 #[derive(Debug, Drop)]
 enum Form {
-    MemberState(Vec<u8>),
+    Own(Vec<u8>),
     Shared(Arc<Body>),
 }
 
-/// A Data packet. One that [`Packet::new`] made lies in memory once however many hold it, and its digest and where its
-/// name and its content lie are found once, when it is made.
+/// A Data packet. If [`Packet::new`] made it, packets that share it have its octets in memory once, and its digest and
+/// the places of its name and its content are found once, when it is made.
 #[derive(Debug)]
 pub struct Packet {
     form: Form,
 }
 
-// A packet is dropped by one call, and not by the ways that its form has.
+// A packet is dropped by one call, and not variant by variant of its form.
 impl Drop for Packet {
     fn drop(self) {
         let Packet { form: _ } = self;
     }
 }
 
-// It is seen as its octets.
+// A packet is seen as its octets.
 impl Model for Packet {
     ghost use Rattle.std.specs.Prelude.{ℕ, List, IsOk};
     ghost use Rattle.ndn_data.specs.Data.{data_of};
@@ -45,7 +45,7 @@ impl Model for Packet {
 }
 
 impl Packet {
-    /// A packet that can be shared. Its digest is taken here where it isn't known.
+    /// A packet that can be shared. Its digest is computed here if `known` is `None`.
     pub fn new(
         alloc: Global,
         octets: Vec<u8>,
@@ -61,23 +61,23 @@ impl Packet {
         })
     }
 
-    /// A packet of its own, which is copied where it is shared, and read anew where its digest, its name or its content
-    /// is asked for. It allocates nothing.
+    /// A packet that is not shared. [`Packet::share`] copies it, and its digest, its name and its content are found
+    /// anew at each call for them. Making it allocates nothing.
     pub fn alone(octets: Vec<u8>) -> Packet
         requires { IsOk (data_of octets.items) }
         ensures { result ≡ octets.items }
     {
         Packet {
-            form: Form::MemberState(octets),
+            form: Form::Own(octets),
         }
     }
 
-    /// The same packet for one more holder. Only one that is alone is copied.
+    /// The same packet once more. Its octets are copied only if it is not a shared one.
     pub fn share(&self, alloc: Global) -> Result<Packet, AllocError>
         ensures { IfOk result (λ packet. packet ≡ self.now) }
     {
         match &self.form {
-            Form::MemberState(octets) => Packet::new(alloc, octets.as_slice().to_vec(alloc)?, None),
+            Form::Own(octets) => Packet::new(alloc, octets.as_slice().to_vec(alloc)?, None),
             Form::Shared(body) => {
                 let body = Arc::try_clone(body)?;
                 Ok(Packet {
@@ -101,7 +101,7 @@ impl Packet {
         ensures data { IsOk (data_of result.now) }
     {
         match &self.form {
-            Form::MemberState(octets) => octets,
+            Form::Own(octets) => octets,
             Form::Shared(body) => body.octets(),
         }
     }
@@ -111,7 +111,7 @@ impl Packet {
         ensures { result ≡ sha256 self.now }
     {
         match &self.form {
-            Form::MemberState(octets) => digest_of(octets),
+            Form::Own(octets) => digest_of(octets),
             Form::Shared(body) => body.digest(),
         }
     }
@@ -121,7 +121,7 @@ impl Packet {
         ensures { result.now ≡ packet_name self.now }
     {
         match &self.form {
-            Form::MemberState(octets) => DataView::read(octets).unwrap().name.octets(),
+            Form::Own(octets) => DataView::read(octets).unwrap().name.octets(),
             Form::Shared(body) => body.name(),
         }
     }
@@ -131,7 +131,7 @@ impl Packet {
         ensures { result.now ≡ packet_content self.now }
     {
         match &self.form {
-            Form::MemberState(octets) => DataView::read(octets).unwrap().content,
+            Form::Own(octets) => DataView::read(octets).unwrap().content,
             Form::Shared(body) => body.content(),
         }
     }

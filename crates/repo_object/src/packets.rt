@@ -24,8 +24,8 @@ use ndn_name::{Name, PacketWriteFault};
 use repo_plan::Shape;
 use std::alloc::{AllocError, Global};
 
-/// The packets of an object as the publication of that number by a node of a group, signed with the node's key: the
-/// record, the index packets, and the segments, each kind in order.
+/// The packets of an object as publication `seq` of `node` in `group`, signed with the node's key: the record, the
+/// index packets, and the segments, each kind in order.
 pub fn packets_of(
     alloc: Global,
     object: &Object,
@@ -45,7 +45,8 @@ pub fn packets_of(
     )
 }
 
-/// The same as packets that can be shared, with their digests: the record and the index packets list those of others.
+/// The packets of an object's publication, as [`packets_of`] gives them, as packets that can be shared and have their
+/// digests: the record and the index packets list digests of others.
 pub fn shared_packets_of(
     alloc: Global,
     object: &Object,
@@ -67,10 +68,11 @@ pub fn shared_packets_of(
     Ok(packets)
 }
 
-/// The packet of one part of such a publication, counted from 0, or `None` where it has no such part.
+/// The packet of part `part`, counted from 0, of the publication whose packets [`packets_of`] gives, or `None` if it
+/// has no such part.
 ///
-/// A segment's packet is made alone, and an index packet with the segments that it lists. For the record's all others
-/// are made too.
+/// A segment's packet is made alone. For an index packet the segments that it lists are made too, and for the record
+/// all other packets.
 pub fn packet_of(
     alloc: Global,
     object: &Object,
@@ -99,8 +101,8 @@ pub fn packet_of(
     segment_alone(alloc, object, i, &key_name, key)
 }
 
-/// The packet of the record by which a node of a group withdraws, with its publication of number `seq`, what it
-/// published under an earlier number, signed with the node's key. It is the only packet of the publication.
+/// The packet of the record that withdraws publication `withdrawn` of `node` in `group`, signed with the node's key. It
+/// is the only packet of the node's publication `seq`.
 pub fn withdrawal_packet(
     alloc: Global,
     withdrawn: u16,
@@ -150,7 +152,7 @@ fn made(
     Ok((record, indexes, segments))
 }
 
-// Those that the record lists: the index packets where there are some, and else the segments.
+// The packets that the record lists: the index packets if there are any, and else the segments.
 fn listed<'m>(segments: &'m [Packet], indexes: &'m [Packet]) -> &'m [Packet]
     requires { length indexes.now ≡ index_packets (length segments.now) }
     ensures same { result.now ≡ (if is_indexed (length segments.now) then indexes.now else segments.now) }
@@ -214,7 +216,7 @@ fn segments_from(
     Ok(packets)
 }
 
-// The index packets of segments with these packets, under this record's name.
+// The index packets under the record's name `name` that list the packets `segments`.
 fn index_packets(
     alloc: Global,
     name: &Name,
@@ -240,7 +242,7 @@ fn index_packets(
     Ok(packets)
 }
 
-// Index packet `k` of an object's publication, which is made of the segments that it lists alone.
+// Index packet `k` of an object's publication. Of the segments, only those that it lists are made for it.
 fn index_alone(
     alloc: Global,
     object: &Object,
@@ -286,7 +288,7 @@ fn segment_alone(
     Ok(Some(packet))
 }
 
-// What index packet `k` lists of all.
+// The elements of `all` that index packet `k` lists: 200 from place `200 k` on, or fewer where `all` ends before.
 fn listed_by<T>(all: &[T], k: u16) -> &[T]
     requires { k * most_listed ≤ length all.now }
     ensures same { result.now ≡ listed_by all.now k }
@@ -297,7 +299,7 @@ fn listed_by<T>(all: &[T], k: u16) -> &[T]
     listed
 }
 
-// The packet of index packet `k` under a record's name, which lists these packets. The last has number `last`.
+// Index packet `k` under the record's name `name`, which lists the packets `listed`. The last one has number `last`.
 fn index_packet(
     alloc: Global,
     name: &Name,
@@ -321,7 +323,7 @@ fn index_packet(
     numbered_packet(alloc, name, last, k, &content, key_name, key)
 }
 
-// The packet of that number under a name, under which the last has number `last`.
+// Packet `i` under the name `name`, where the last one has number `last`.
 fn numbered_packet(
     alloc: Global,
     name: &Name,
@@ -342,7 +344,8 @@ fn numbered_packet(
     write_packet(alloc, &name, Some(u64::from(last)), content, key_name, key)
 }
 
-// The packet of a record of this name that lists these digests, of an object of that name and of so many segments.
+// The packet of a record of the name `name` that lists `digests`, of an object of the name `object` and of `segments`
+// segments.
 fn listing_packet(
     alloc: Global,
     name: &Name,
@@ -365,7 +368,7 @@ fn listing_packet(
     write_packet(alloc, name, None, &content, key_name, key)
 }
 
-// A packet that is within the limit of octets.
+// A signed packet. It must be within the limit of octets.
 fn write_packet(
     alloc: Global,
     name: &Name,

@@ -17,15 +17,15 @@ use std::marker::Model;
 pub enum Record {
     /// It lists an object of at most 200 segments.
     Lists(Listing),
-    /// It withdraws what its publisher published under that number.
+    /// It withdraws what its publisher published under the number `seq`.
     Withdraws {
         seq: u16,
     },
-    /// It lists the index packets of an object of more segments.
+    /// It lists the index packets of an object of more than 200 segments.
     Indexed {
         name: Name,
         segments: u16,
-        /// Of the index packets, in order.
+        /// The digests of the index packets, in order.
         digests: Vec<[u8; 32]>,
     },
 }
@@ -72,7 +72,7 @@ pub fn read_record(alloc: Global, content: &[u8]) -> Result<Record, RecordFault>
     }
 }
 
-/// The digests of segments that the index packet of this content lists, if it lists so many.
+/// The digests of segments that the index packet of this content lists, if it lists exactly `count`.
 pub fn read_index(alloc: Global, content: &[u8], count: u16) -> Result<Vec<[u8; 32]>, RecordFault>
     ensures ok { IfOk result (λ digests. index_of content.now count ≡ Some digests.items) }
     ensures bad { (result ≡ Err RecordFault.BadRecord) ↔ (index_of content.now count ≡ None) }
@@ -83,14 +83,14 @@ pub fn read_index(alloc: Global, content: &[u8], count: u16) -> Result<Vec<[u8; 
     }
 }
 
-// Whether a content is that of an index packet that lists so many digests. It allocates nothing.
+// Whether `content` is that of an index packet that lists exactly `count` digests. It allocates nothing.
 pub(crate) fn is_index(content: &[u8], count: u16) -> bool
     ensures { result ≡ is_some (index_of content.now count) }
 {
     DigestsView::of_index(content, count).is_some()
 }
 
-// The record that lists this, with octets of its own.
+// The record that lists what `listing` lists, with octets of its own.
 fn owned(alloc: Global, listing: &ListingView<'_>) -> Result<Record, AllocError>
     ensures same { IfOk result (λ owned. owned_record owned ≡ Lists listing.now) }
     ensures kind { IfOk result IsOfItsKind }

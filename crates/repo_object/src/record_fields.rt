@@ -58,13 +58,13 @@ const INDEX: [Place<RecordField>; 1] = [Place {
     repeats: true,
 }];
 
-// The digests that a record or an index packet still has, as many as it counts.
+// A reader of the digests that a record or an index packet lists.
 #[derive(Debug, Drop)]
 pub(crate) struct DigestReader<'p> {
     fields: FieldReader<'p, RecordField>,
-    // Whether they are of index packets.
+    // Whether the digests are of index packets.
     indexes: bool,
-    // How many there must be.
+    // How many digests must still follow.
     left: u16,
 }
 
@@ -76,13 +76,13 @@ pub(crate) enum RecordReader<'p> {
         name: NameView<'p>,
         segments: u16,
         digests: DigestReader<'p>,
-        // What follows the number of segments: a row of digests, where nothing else stands there.
+        // The octets after the SegmentCount: the digests one after another, if nothing else stands there.
         row: &'p [u8],
     },
 }
 
 impl<'p> RecordReader<'p> {
-    // The record that a content begins as.
+    // The record of `content`, read up to its digests, or `None` if what was read is no record's.
     pub(crate) fn new(content: &'p [u8]) -> Option<RecordReader<'p>>
         ensures read { MatchOption result
             (record_of content.now ≡ None)
@@ -102,7 +102,7 @@ impl<'p> RecordReader<'p> {
     }
 }
 
-// A record that begins with Withdraws.
+// The record that begins with the Withdraws element `number`, or `None` if it is no record.
 fn withdrawal<'p>(
     mut fields: FieldReader<'p, RecordField>,
     number: Element<'p>,
@@ -119,7 +119,8 @@ fn withdrawal<'p>(
     }
 }
 
-// A record of this content that begins with a Name.
+// The record of `content` that begins with the Name element `name`, read up to its digests, or `None` if what was read
+// is no record's.
 fn listing<'p>(
     content: &'p [u8],
     mut fields: FieldReader<'p, RecordField>,
@@ -154,7 +155,7 @@ fn listing<'p>(
     })
 }
 
-// How many digests the record of so many segments lists.
+// How many digests the record of an object of `segments` segments lists.
 fn count_listed(segments: u16) -> u16
     requires { segments ≤ segment_limit }
     ensures { result ≡ count_listed segments }
@@ -166,7 +167,7 @@ fn count_listed(segments: u16) -> u16
     shape.index
 }
 
-// The object's name that an element's value is.
+// The object's name that is the element's value, or `None`.
 fn object_name_in(element: Element<'_>) -> Option<NameView<'_>>
     requires { element.value_start + length element.value.now < 2 ^ 64 }
     ensures { result ≡ object_name_in (item element.entry) }
@@ -178,7 +179,7 @@ fn object_name_in(element: Element<'_>) -> Option<NameView<'_>>
     Some(name)
 }
 
-// The number of segments that an element's value is.
+// The number of segments that is the element's value, or `None`.
 fn segment_count_in(element: Element<'_>) -> Option<u16>
     ensures few { IfSome result (λ n. n ≤ segment_limit) }
     ensures read { result ≡ segment_count_in (item element.entry) }
@@ -190,7 +191,7 @@ fn segment_count_in(element: Element<'_>) -> Option<u16>
     Some(count as u16)
 }
 
-// The number of a publication that an element's value is.
+// The number of a publication that is the element's value, or `None`.
 fn number_in(element: Element<'_>) -> Option<u16>
     ensures { result ≡ number_in (item element.entry) }
 {
@@ -202,7 +203,7 @@ fn number_in(element: Element<'_>) -> Option<u16>
 }
 
 impl<'p> DigestReader<'p> {
-    // The digests of an index packet of this content that lists so many.
+    // A reader of the digests of an index packet of this content that must list `count`.
     pub(crate) fn of_index(content: &'p [u8], count: u16) -> DigestReader<'p>
         ensures read { remaining_digests result ≡ index_of content.now count }
         ensures row { IsSome (remaining_digests result) → IsRow content.now result }
@@ -226,14 +227,15 @@ impl<'p> DigestReader<'p> {
         }
     }
 
-    // How many there must be.
+    // How many digests must still follow.
     pub(crate) fn left(&self) -> u16
         ensures { result ≡ self.now.left }
     {
         self.left
     }
 
-    // The next digest, or `None` where there are as many as were counted and no more.
+    // The next digest, or `None` after the last one. A field that lists no such digest, a digest too few and one too
+    // many are faults.
     pub(crate) fn next(&mut self) -> Result<Option<&'p [u8; 32]>, RecordFault>
         ensures ok { IfOk result (λ next. MatchOption next
             (remaining_digests self.old ≡ Some [])
@@ -264,7 +266,7 @@ impl<'p> DigestReader<'p> {
         Ok(Some(digest))
     }
 
-    // Whether there are as many as were counted.
+    // Whether exactly `left` digests follow.
     pub(crate) fn are_all(mut self) -> bool
         ensures { result ≡ is_some (remaining_digests self.entry) }
     {
@@ -276,7 +278,7 @@ impl<'p> DigestReader<'p> {
         false
     }
 
-    // The digest at a place, of those that are all there.
+    // The digest at `place`, counted from 0, of those that the reader has still to read, which are all there.
     pub(crate) fn at(mut self, place: usize) -> Option<&'p [u8; 32]>
         requires { IsSome (remaining_digests self) }
         ensures { option_map (λ digest. digest.now) result
@@ -293,7 +295,7 @@ impl<'p> DigestReader<'p> {
     }
 }
 
-// The digest of that kind that a field is.
+// The digest that a field lists, or `None`: of an index packet if `indexes`, and else of a segment.
 fn digest_in(indexes: bool, field: RecordField, element: Element<'_>) -> Option<&[u8; 32]>
     ensures { MatchOption result
         (digest_in indexes (field, item element.entry) ≡ None)

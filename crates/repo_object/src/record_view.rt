@@ -11,7 +11,7 @@ use crate::record_fields::RecordReader;
 use ndn_data::DataView;
 use repo_plan::Shape;
 
-/// A record whose octets are lent: it lists the parts of an object, or withdraws the publication of a number.
+/// A record in borrowed octets: it lists the parts of an object, or withdraws the publication of a number.
 #[derive(Debug, Drop)]
 pub enum RecordView<'p> {
     Lists(ListingView<'p>),
@@ -19,7 +19,7 @@ pub enum RecordView<'p> {
 }
 
 impl<'p> RecordView<'p> {
-    // The record of this content, or `None` where it is none. It allocates nothing.
+    // The record of this content, or `None` if it is no record's. It allocates nothing.
     pub(crate) fn read(content: &'p [u8]) -> Option<RecordView<'p>>
         ensures { option_map seen_record result ≡ record_of content.now }
     {
@@ -37,7 +37,8 @@ impl<'p> RecordView<'p> {
         }
     }
 
-    // The record of a content that is known to be one, as those are that were checked. Its digests are not gone over.
+    // The record of a content that is known to be a record's, as that of a checked packet is. Its digests are not read
+    // here.
     fn known(content: &'p [u8]) -> RecordView<'p>
         requires { IsSome (record_of content.now) }
         ensures { record_of content.now ≡ Some (seen_record result) }
@@ -67,7 +68,7 @@ impl<'p> RecordView<'p> {
         }
     }
 
-    /// The record that a packet is known to be.
+    /// The record of a packet that is known to be a record's.
     pub fn in_packet(packet: &'p [u8]) -> RecordView<'p>
         requires { IsSome (stated_in packet.now) }
         ensures { stated_in packet.now ≡ Some (seen_record result) }

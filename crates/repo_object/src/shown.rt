@@ -7,7 +7,7 @@ use crate::packet::Packet;
 use ndn_sign::digest as digest_of;
 use std::alloc::{AllocError, Global};
 
-// What is checked: octets alone, or a packet, which has its digest.
+// What is checked: octets alone, or a packet.
 #[derive(Clone, Copy, Debug)]
 pub(crate) enum Shown<'p> {
     Octets(&'p [u8]),
@@ -24,7 +24,7 @@ impl<'p> Shown<'p> {
         }
     }
 
-    // Their digest, which a packet has already.
+    // The digest of the octets. A shared packet has it already.
     pub(crate) fn digest(&self) -> [u8; 32]
         ensures { result ≡ sha256 (octets_shown self.now) }
     {

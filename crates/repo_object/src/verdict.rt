@@ -16,7 +16,8 @@ use ndn_packet::SIGNATURE_HMAC_WITH_SHA256;
 use ndn_sign::KeyRing;
 use repo_plan::Part;
 
-// Whether what is shown, which is this packet, is what is expected, under the key that the ring has at that number.
+// Whether what is shown, which is the packet `view`, is what `want` expects, under the key that the ring has at
+// `number`, or the first reason why not.
 pub(crate) fn evaluate(
     want: &Expected<'_>,
     ring: &KeyRing,
@@ -61,7 +62,7 @@ fn is_all_signed(view: &DataView<'_>) -> bool
     view.all_signed()
 }
 
-// Whether the packet says that it is signed by HMAC with SHA-256 under the key of that name.
+// Whether the packet says that it is signed by HMAC with SHA-256 under the key of the name `key_name`.
 fn names_key(key_name: &[u8], view: &DataView<'_>) -> bool
     ensures { result ≡ names_key key_name.now (data_seen view.now) }
 {
@@ -77,7 +78,7 @@ fn locates(key_name: &[u8], locator: &Option<NameView<'_>>) -> bool
     }
 }
 
-// Whether the signature is the mac of what is signed, under the key of that number.
+// Whether the signature is the mac of the signed portion under the key that the ring has at `number`.
 fn is_signed_by(ring: &KeyRing, number: u32, view: &DataView<'_>) -> bool
     requires { number < length ring.now }
     ensures { result ≡ is_signed_by (key_at ring.now number).key (data_seen view.now) }
@@ -85,15 +86,15 @@ fn is_signed_by(ring: &KeyRing, number: u32, view: &DataView<'_>) -> bool
     ring.check_mac(number, view.signed_portion(), &[], view.signature)
 }
 
-// Whether a record's content is one that the publication may have, and an index packet's lists as many digests as it
-// has to.
+// Whether the content is what the want asks for: of part 0, a record that the publication may have, and of an index
+// packet, the number of digests that the want says.
 fn is_well_stated(want: &Expected<'_>, view: &DataView<'_>) -> bool
     ensures { result ≡ is_well_stated want.now (data_seen view.now) }
 {
     may_say(want.part(), view.content) && lists_as_many(want.lists(), view.content)
 }
 
-// Whether the content is a record's that the publication may have, where it must be one.
+// Whether `content` is a record's that the publication may have. For a part after the record, every content passes.
 fn may_say(part: Part, content: &[u8]) -> bool
     ensures { result ≡ (not (part.part == 0) || may_say part.seq (record_of content.now)) }
 {
@@ -107,7 +108,7 @@ fn may_say(part: Part, content: &[u8]) -> bool
     }
 }
 
-// Whether the content lists as many digests as it has to, where that is known.
+// Whether `content` is that of an index packet with `count` digests. Every content passes for `None`.
 fn lists_as_many(count: Option<u16>, content: &[u8]) -> bool
     ensures { result ≡ lists_as_many count content.now }
 {

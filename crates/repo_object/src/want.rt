@@ -60,7 +60,7 @@ impl Model for Want {
     ghost invariant = { λ w. WantIsWritten w.interest.items w.name_start w.name_end w.has_digest };
 }
 
-/// The want of the record of a publication of that node in that group.
+/// The want of the record of publication `part.seq` of `node` in `group`.
 pub fn want_record(alloc: Global, part: Part, node: &Name, group: &Name) -> Result<Want, AllocError>
     requires part { part.part ≡ 0 }
     requires node { length (encoding node.now) ≤ node_name_limit }
@@ -70,7 +70,7 @@ pub fn want_record(alloc: Global, part: Part, node: &Name, group: &Name) -> Resu
     Expected::record(part, node, group).to_want(alloc)
 }
 
-/// The want of an index packet that a record lists, of a publication of that node in that group.
+/// The want of the index packet `part`, which the record `of` lists, of a publication by `node` in `group`.
 pub fn want_index(
     alloc: Global,
     part: Part,
@@ -96,8 +96,8 @@ pub fn want_index(
     Expected::of_index(part, *segments, digest, node, group).to_want(alloc)
 }
 
-/// The want of a segment of an object of this name, whose publication has this shape. Its record or one of its index
-/// packets lists the digest.
+/// The want of the segment `part` of an object of this name, whose publication has this shape. Its record or one of its
+/// index packets lists the digest.
 pub fn want_segment(
     alloc: Global,
     part: Part,
@@ -113,7 +113,7 @@ pub fn want_segment(
 }
 
 impl Want {
-    // The want of a packet of this name and digest.
+    // The want of a packet of this name and, if it is known, of this digest.
     pub(crate) fn written(
         alloc: Global,
         part: Part,
@@ -156,7 +156,7 @@ impl Want {
         &self.interest
     }
 
-    /// The packet's digest, where it is known: of every part but a record it is.
+    /// The packet's digest, if it is known. It is known of every part but a record.
     pub fn digest(&self) -> Option<&[u8; 32]>
         ensures { option_map (λ digest. digest.now) result ≡ self.now.digest }
     {
@@ -167,7 +167,7 @@ impl Want {
         digest.first_chunk()
     }
 
-    // What it says of the packet.
+    // What the want says of the packet.
     fn expected(&self) -> Expected<'_>
         ensures { result ≡ self.now }
     {
@@ -187,7 +187,7 @@ impl Want {
         self.check_shown(&Shown::Octets(octets), ring)
     }
 
-    // The same of what is shown.
+    // Whether the octets or the packet of `shown` are the packet that is wanted, or the first reason why not.
     pub(crate) fn check_shown(&self, shown: &Shown<'_>, ring: &KeyRing) -> Result<(), PartRefusal>
         requires { self.now.part.publisher < length ring.now }
         ensures { MatchResult result
@@ -201,7 +201,7 @@ impl Want {
 // The type of the component that is a packet's digest, as an element's.
 const DIGEST_COMPONENT: u32 = types::IMPLICIT_SHA256_DIGEST_COMPONENT as u32;
 
-// The beginning of an Interest that asks for a name of so many octets, with capacity for the whole.
+// The beginning of an Interest that asks for a name of `asked` octets, with capacity for the whole Interest.
 fn begun(alloc: Global, asked: usize) -> Result<Writer, AllocError>
     requires { asked ≤ 1000 }
     ensures { IfOk result (λ writer. writer ≡ interest_prefix asked) }
@@ -213,7 +213,7 @@ fn begun(alloc: Global, asked: usize) -> Result<Writer, AllocError>
     Ok(writer)
 }
 
-// How many octets the component of a digest has, where there is one.
+// How many octets the component of `digest` has: 0 for `None`.
 fn digest_len(digest: Option<&[u8; 32]>) -> usize
     requires { IfSome digest (λ d. length d.now ≡ 32) }
     ensures exact { result ≡ length (digest_component (option_map (λ d. d.now) digest.entry)) }
@@ -225,7 +225,7 @@ fn digest_len(digest: Option<&[u8; 32]>) -> usize
     }
 }
 
-// Appends that component, where there is one.
+// Appends the component of `digest`, and nothing for `None`.
 fn put_digest(writer: &mut Writer, digest: Option<&[u8; 32]>) -> Result<(), AllocError>
     ensures { OnOk result (writer.new
         ≡ writer.old ++ digest_component (option_map (λ d. d.now) digest.entry)) }
@@ -236,7 +236,7 @@ fn put_digest(writer: &mut Writer, digest: Option<&[u8; 32]>) -> Result<(), Allo
     }
 }
 
-// How many of so many segments index packet `k` lists, counted from 0.
+// How many of an object's `segments` segments index packet `k`, counted from 0, lists.
 pub(crate) fn listed_in(segments: u16, k: u16) -> u16
     ensures { result ≡ listed_in segments k }
 {

@@ -5,8 +5,8 @@ use Rattle.repo_object.specs.Forms.{octets_in}
 use Rattle.repo_object.proofs.ReadNames.{content_of-read}
 use Rattle.repo_object.proofs.packet.Packet.content.Goals as goal
 
-pub returns-in-MemberState : goal.returns-in-MemberState
-returns-in-MemberState c =
+pub returns-in-Own : goal.returns-in-Own
+returns-in-Own c =
     let read = rw c.unwrap.ensures at c.read.ensures in
     sym (content_of-read c.deref.result.now (data_seen c.unwrap.result) read)
-    ∙ ap packet_content (c.deref.ensures.value ∙ sym (ap octets_in c.in-MemberState.is) ∙ c.self.view_is)
+    ∙ ap packet_content (c.deref.ensures.value ∙ sym (ap octets_in c.in-Own.is) ∙ c.self.view_is)
