@@ -1,4 +1,4 @@
--- The publications and parts that there are stand among those of the group.
+-- What was published stands in the list of all publications, and its parts in the list of all parts.
 use Rattle.std.proofs.Common.{◌≡◌, inl, inr, ℕ, suc, zero, ◌+◌, ◌-◌, ◌<◌, List, [], ◌∷◌, length, get_or, refl, ap}
 use Rattle.std.proofs.Common.{subst, arith}
 use Rattle.repo_plan.specs.declared.part.Part.{Part}

@@ -79,7 +79,7 @@ rises_entries : (ps : List Publication) → Rises publication_cmp ps
 rises_entries [] r = tt
 rises_entries (p ∷ ps) r = (before_entries p ps r.0, rises_entries ps r.1)
 
--- so do the entries of those of them that pass a test
+-- the entries of the publications that pass a test stand in order
 entries_rise : (ls : Logs) (f : Publication → Bool)
     → Rises pair_cmp (map publication_of (map published_entry (filter f (published ls))))
 entries_rise ls f =

@@ -29,7 +29,7 @@ use Rattle.group_model.proofs.Parents.{record_lists_itself, parent_within}
 
 -- ---- any gain
 
--- parts come to a member: its vector may grow, and each new part is one of a known publication that isn't hidden, with
+-- a member gains parts: its vector may grow, and each new part is one of a known publication that isn't hidden, with
 -- its record
 pub record Gain (ls : Logs) (old new : Member) : Type 0 where
   pub knows : (p : ℕ) → get_or old.known p 0 ≤ get_or new.known p 0
@@ -108,7 +108,7 @@ same_gain ls old new other k h x g = record {
   back : (t : Part) → member_holds other t ≡ true → member_holds new t ≡ true
   back t y = sym (on t) ∙ y
 
--- what is held after more parts came
+-- what was held is held after more parts were gained
 pub held_too : (ts : List Part) (m : Member) (t : Part) → member_holds m t ≡ true → member_holds (gains ts m) t ≡ true
 held_too ts m t h = contains-insert_keys ts m.held t ∙ or_right (contains part_cmp ts t) (member_holds m t) h
 
@@ -129,7 +129,7 @@ pub held_fresh : (ts : List Part) (m : Member) (t : Part) → member_holds (gain
     → member_holds m t ≡ false → In t ts
 held_fresh ts m t h o = elim (held_either ts m t h) [ inl i ↦ i | inr b ↦ absurd (true≢false (sym b ∙ o)) ]
 
--- wanted parts come
+-- a member gains wanted parts
 pub wanted_gain : (ls : Logs) (ts : List Part) (m : Member) → ((t : Part) → In t ts → is_wanted (plan_of ls m) t ≡ true)
     → Gain ls m (gains ts m)
 wanted_gain ls ts m wanted = record {
@@ -152,7 +152,7 @@ wanted_gain ls ts m wanted = record {
   was : (t : Part) → member_holds (gains ts m) t ≡ true → member_holds m t ≡ false → IsWanted ls m t
   was t h o = wanted_parts ls m t (wanted t (held_fresh ts m t h o))
 
--- ---- a part that is claimed comes
+-- ---- a claimed part is received
 
 pub sound_takes : (ls : Logs) (j f : ℕ) (t : Part) (m : Member) → get_or m.claims (f - 1) None ≡ Some t
     → IsSoundMember ls j m → IsSoundMember ls j (takes f t m)
@@ -237,7 +237,7 @@ pub each_tried : (more : Part → ℕ) (ts : List Part) (es : List (Part × ℕ)
 each_tried more [] es h = h
 each_tried more (t ∷ ts) es h = each_tried more ts (with_tries t (more t) es) (tried_once_more t (more t) es h)
 
--- wanted parts come that nobody claims, and attempts are counted
+-- wanted parts that nobody claims are gained, and attempts are counted
 pub sound_gains : (ls : Logs) (j : ℕ) (ts : List Part) (tried : List (Part × ℕ)) (m : Member)
     → ((t : Part) → In t ts → is_wanted (plan_of ls m) t ≡ true)
     → ((t : Part) → In t ts → is_claimed (plan_of ls m) t ≡ false) → Rises part_cmp (keys tried) → AreTried tried

@@ -37,7 +37,7 @@ module _ (w : World) (j : ℕ) (new : Member) (within : j < length w.members) (g
   deletes_same : (pair : Pair) → has_deleted new pair ≡ has_deleted m pair
   deletes_same pair = ap (λ (x : Member). has_deleted x pair) gathering.same
 
-  -- what it wants nobody holds
+  -- no member holds a part that the member `new` wants
   nobody_holds : (t : Part) → IsWanted (logs w) new t → someone_holds w.members t ≡ true → ⊥
   nobody_holds t wanted holds = true≢false (sym holds ∙ gathered t (wanted_from (logs w) new t wanted))
 
@@ -50,7 +50,7 @@ module _ (w : World) (j : ℕ) (new : Member) (within : j < length w.members) (g
   not_hidden : (t : Part) → IsGained w m t → has_deleted new (pair_of t) ≡ false
   not_hidden t c = deletes_same (pair_of t) ∙ c.not_hidden
 
-  -- what comes in a settle is held, its record first
+  -- a part that is gained in a settle is held, its record first
   has_record : (t : Part) → In t (all_parts (logs w)) → IsGained w m t → member_holds new (record_of t) ≡ true
   has_record t i c = elim (cases_Bool (member_holds new (record_of t))) [
     | inl on ↦ on
@@ -115,7 +115,7 @@ module _ (w : World) (j : ℕ) (new : Member) (within : j < length w.members) (g
       let held = sound.held t h in
       record { there = known_published (logs w) new.known (pair_of t) sound.known held.known; counted = held.counted }
 
-  -- and what is held newly comes in a settle
+  -- a part that is held newly is gained in a settle
   comes_new : (t : Part) → member_holds new t ≡ true → member_holds m t ≡ false → is_gained w m t ≡ true
   comes_new t h fresh =
       let held = sound.held t h in

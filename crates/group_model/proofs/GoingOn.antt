@@ -152,7 +152,7 @@ lasts_publish env w j o l s =
 
 -- ---- what an event publishes
 
--- a member may publish it after these: a withdrawal is of an object among them that none of them withdraws
+-- a member may publish it after `log`: a withdrawal is of an object of `log` that nothing in `log` withdraws
 abbrev pub CanPost : List Post → Post → Type 0
 CanPost log (Offers o) = Unit {0}
 CanPost log (Withdraws seq) = has_unwithdrawn log seq ≡ true

@@ -154,7 +154,7 @@ within_claim s w j f (Some t) h =
     (mem_beside s (s + 1) (member w j) _ refl refl refl (omega arith) (h.members j)) (same_sent s w h)
     (more_tally s w h) h
 
--- one part came, and perhaps one attempt was made
+-- one part was received, and perhaps one attempt was made
 within_part : (env : Environment) (s : ℕ) (w : World) (j f : ℕ) (t : Part) (made : ℕ) → made ≤ 1 → HasSmallPackets env w
     → IsWithinSteps s w
     → IsWithinSteps (s + 1)

@@ -71,7 +71,7 @@ mem_process old new m n k a short l h = mem_change old new m n
 
 -- ---- blocks
 
--- what a block comes to has as many blocks as its insertion
+-- a process after a block has at most 200 blocks
 abbrev pub HasFewBlocks : BlockState → Type 0
 HasFewBlocks Unknown = Unit {0}
 HasFewBlocks Already = Unit {0}

@@ -150,7 +150,7 @@ with_machine ls j m machine processes next s h = record {
   apart = s.apart;
 }
 
--- ---- a member is told of a vector
+-- ---- a member is informed of a vector
 
 pub no_more_join : (ls : Logs) (v w : List ℕ) → IsWithinLogs ls v → IsWithinLogs ls w → IsWithinLogs ls (join v w)
 no_more_join ls v w a b p =

@@ -90,7 +90,7 @@ when_reached P law env n es h = law env (after_events env (initial_world env n) 
 abbrev known_of : List Member → ℕ → ℕ → ℕ
 known_of ms j p = get_or (get_or ms j no_member).known p 0
 
--- as many members, the same publications, and no number goes down
+-- the same number of members, the same publications, and no number goes down
 record Goes (old new : World) : Type 0 where
   width : length new.members ≡ length old.members
   logs : logs new ≡ logs old
@@ -125,7 +125,7 @@ goes_all env (e ∷ es) w h s q =
           omega (arith, x, y);
     }
 
--- ---- who is told of what
+-- ---- which member is informed of what
 
 received_deliver : (env : Environment) (w : World) (i : ℕ) (received : List ℕ) (j p : ℕ) → j < length w.members → i ≡ j
     → get_or received p 0 ≡ last_of (logs w) p → last_of (logs w) p
@@ -165,7 +165,7 @@ received_in_the_end env (e ∷ es) w j p l h s q (inr t) =
     (received_in_the_end env es (after_event env w e) j p (subst (λ (n : ℕ). j < n) (sym g.width) l) h.1
     (sound_after env w e h.0 s) q.1 t)
 
--- ---- where all are told of all
+-- ---- where all are informed of all
 
 pub informed_of_all : InSoundGroups JoinsWhereAllAreInformed
 informed_of_all env w sound es k tells clear nothing =

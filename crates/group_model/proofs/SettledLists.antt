@@ -143,7 +143,7 @@ no_object : (o : Post) (seq : ℕ) → withdraws_number o seq ≡ true → is_so
 no_object (Offers object) seq is h = true≢false (sym is)
 no_object (Withdraws withdrawn) seq is h = true≢false (sym h)
 
--- each withdrawal comes to all
+-- each withdrawal reaches all members
 withdrawal_comes : (env : Environment) (w : World) (s : IsSoundGroup w) (j : ℕ) → j < length w.members
     → OnlyObjectsDeleted w
     → (pair : Pair) (seq : ℕ) → IsPublished (logs w) pair → withdraws_number (post_at (logs w) pair) seq ≡ true

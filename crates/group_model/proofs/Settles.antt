@@ -90,7 +90,7 @@ length_join_all (w ∷ v ∷ ws) n u i each =
 
 -- ---- the member
 
--- a part that comes to a member, in parts
+-- a part that a member gains, in parts
 pub record IsGained (w : World) (m : Member) (t : Part) : Type 0 where
   pub received : t.seq ≤ get_or (settled_vector w) t.publisher 0
   pub not_hidden : has_deleted m (pair_of t) ≡ false
@@ -129,7 +129,7 @@ comes_from w m t h =
     (and_from (someone_holds w.members (record_of t)) (not (member_holds m t)) h.record_too
     (not_from_false (member_holds m t) h.fresh))))
 
--- who of them holds it
+-- a member of `ms` that holds the part
 pub holder : (ms : List Member) (t : Part) → someone_holds ms t ≡ true
     → (m : Member) × In m ms × (member_holds m t ≡ true)
 holder [] t h = absurd (true≢false (sym h))
@@ -138,7 +138,7 @@ holder (x ∷ xs) t h = elim (or_cases (member_holds x t) (someone_holds xs t) h
   | inr b ↦ let r : (m : Member) × In m xs × (member_holds m t ≡ true) = holder xs t b in (r.0, inr r.1, r.2)
 ]
 
--- who holds a part holds what lists it
+-- where a member holds a part, a member holds the part that lists it
 pub someone_lists : (w : World) → IsSoundGroup w → (t : Part) → someone_holds w.members t ≡ true
     → someone_holds w.members (parent (shape_at (logs w) (pair_of t)) t) ≡ true
 someone_lists w s t h =

@@ -215,7 +215,7 @@ sound_publish env w j o l s =
           (s.sent k lk);
     })
 
--- ---- claims and what comes for them
+-- ---- claims and what is received for them
 
 -- an unclaimed part is wanted, and nobody claims it
 pub open_wanted : (w : World) (j : ℕ) (t : Part) → In t (unclaimed_at w j)

@@ -8,7 +8,7 @@ use Rattle.group_model.specs.Member.{Member, member_holds, has_deleted, catalogu
 use Rattle.group_model.specs.World.{Environment, World, member, logs, catalogue_at}
 use Rattle.group_model.specs.Sound.{IsPublished}
 
--- Of no withdrawal of the publication is the record held.
+-- The member holds the record of no withdrawal of the publication.
 abbrev pub HoldsNoWithdrawal : Logs → Member → Pair → Type 0
 HoldsNoWithdrawal logs m pair = (u : ℕ) → IsPublished logs (pair.0, u)
     → withdraws_number (post_at logs (pair.0, u)) pair.1 ≡ true → member_holds m (part_of (pair.0, u) 0) ≡ false
@@ -20,7 +20,7 @@ pub record BelongsInCatalogue (logs : Logs) (m : Member) (pair : Pair) : Type 0 
   pub held : (x : ℕ) → x ≤ count logs pair → member_holds m (part_of pair x) ≡ true
   pub not_withdrawn : HoldsNoWithdrawal logs m pair
 
--- Those are listed and no others, and none that the member has deleted.
+-- Member `j` lists just the publications that belong in its catalogue, and none that it has deleted.
 pub record ListsRightly (w : World) (j : ℕ) (pair : Pair) : Type 0 where
   pub exactly : (lists pair (catalogue_at w j) ≡ true) ↔ BelongsInCatalogue (logs w) (member w j) pair
   pub not_hidden : has_deleted (member w j) pair ≡ true → lists pair (catalogue_at w j) ≡ false
@@ -42,10 +42,10 @@ pub record BelongsInJoin (logs : Logs) (pair : Pair) : Type 0 where
   pub not_withdrawn : (u : ℕ) → IsPublished logs (pair.0, u)
       → withdraws_number (post_at logs (pair.0, u)) pair.1 ≡ false
 
--- Those are listed and no others.
+-- The join of all publications lists just the objects that belong in it.
 abbrev pub JoinListsThose : Type 0
 JoinListsThose = (logs : Logs) (pair : Pair) → (lists pair (join_of logs) ≡ true) ↔ BelongsInJoin logs pair
 
--- So does the join of all.
+-- The join of all publications lists its entries in order of publisher and number, each once.
 abbrev pub JoinListsInOrder : Type 0
 JoinListsInOrder = (logs : Logs) → IsCatalogue (join_of logs)

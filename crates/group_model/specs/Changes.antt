@@ -46,7 +46,7 @@ member_with_claim f claim m = record m { claims = slice_set m.claims (f - 1) cla
 abbrev pub takes : ℕ → Part → Member → Member
 takes f t m = member_with_claim f None (gains (t ∷ []) m)
 
--- The insertion process of a number is this one.
+-- The member has the insertion process `p` under `number` from now on.
 abbrev pub member_with_process : ℕ → Process → Member → Member
 member_with_process number p m = record m { processes = with_value nat_cmp number p m.processes }
 

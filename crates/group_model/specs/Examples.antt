@@ -68,7 +68,8 @@ abbrev pub refused_after : Environment → ℕ → List (Event × Reply) → Lis
 refused_after env members lines refused =
     map (λ l. refusal env (after_events env (initial_world env members) (map (λ l. l.0) lines)) l.0) refused
 
--- After these events, which are taken with these replies, each of those is refused so.
+-- After the events of `lines`, which are taken with their replies, each event of `refused` is refused with the refusal
+-- beside it.
 abbrev pub Refuses : Environment → ℕ → List (Event × Reply) → List (Event × Refusal) → Type 0
 Refuses env members lines refused =
     Plays env members lines × (refused_after env members lines refused ≡ map (λ l. Some l.1) refused)
@@ -159,7 +160,7 @@ OldRepeats = Plays plain_outside 2 (
     ∷ []
     )
 
--- An object is listed once its record and its three segments have come, and not before.
+-- An object is listed once its record and its three segments are received, and not before.
 abbrev pub PartByPart : Type 0
 PartByPart = Plays plain_outside 2 (
     (Publish 0 three_pieces, Published 1 3 1)
@@ -207,7 +208,7 @@ SegmentCounts = Plays plain_outside 1 (
     ∷ []
     )
 
--- A settle ends the claims of fetchers, and what they claimed has come.
+-- A settle ends the claims of fetchers, and the parts that they claimed are received.
 abbrev pub SettleEndsClaims : Type 0
 SettleEndsClaims = Plays plain_outside 2 (
     (Publish 0 three_pieces, Published 1 3 1)
@@ -241,7 +242,7 @@ Timers = Plays plain_outside 2 (
 
 -- ---- fetches
 
--- A fetch brings the record; the next one brings what it lists.
+-- A fetch brings the record; the next one brings the parts that the record lists.
 abbrev pub Fetches : Type 0
 Fetches = Plays plain_outside 2 (
     (Publish 0 three_pieces, Published 1 3 1)
@@ -286,7 +287,7 @@ FromOutside = Plays plain_outside 2 (
 
 -- ---- refusals
 
--- No sync Interest has the number 0, or one that comes later.
+-- No sync Interest has the number 0, or a number that none has yet.
 abbrev pub UnsentIsRefused : Type 0
 UnsentIsRefused = Refuses plain_outside 2
     ((Publish 0 (whole doc abc), Published 1 1 1) ∷ (Deliver 1 1, Delivered Steady) ∷ [])
@@ -332,11 +333,11 @@ HearIsForeign = Refuses plain_outside 2 claimed (
 abbrev pub FeedIsForeign : Type 0
 FeedIsForeign = Refuses plain_outside 2 claimed ((Feed 1 1 (λ _ _. Another), Foreign) ∷ [])
 
--- Who is asked gives other packets.
+-- A member that is asked for a part gives another packet that passes the checks.
 abbrev pub gives_others : Environment
 gives_others = record plain_outside { serves = λ _ _ _. Another }
 
--- The same where a member gives it.
+-- An answer that passes the checks of the claimed part, and is not its publisher's packet.
 abbrev pub AnswerIsForeign : Type 0
 AnswerIsForeign = Refuses gives_others 2 claimed ((Answer 1 1 0, Foreign) ∷ [])
 
@@ -350,7 +351,7 @@ OrderIsForeign = Refuses plain_outside 2 ((Issue 0 0 (Check 1), Commanded (code_
     ∷ []
     )
 
--- A member that has published so often.
+-- A group of one member that has published `n` times.
 abbrev pub after_so_many : ℕ → World
 after_so_many n = record (initial_world plain_outside 1) {
   members = record no_member { log = replicate n no_post } ∷ [];
@@ -364,15 +365,15 @@ SpentIsRefused =
 
 -- ---- restarts, deletions and insertions
 
--- A deletion that dropped so many packets.
+-- The reply to a deletion that dropped `packets` packets.
 abbrev pub deletion_reply : ℕ → Reply
 deletion_reply packets = Commanded (record (code_only 200) { deleted = Some packets })
 
--- An insertion of which so many blocks are there.
+-- The reply to a check of an insertion of which `blocks` blocks are there.
 abbrev pub inserted : ℕ → ℕ → Reply
 inserted code blocks = Commanded (record (code_only code) { inserted = Some blocks })
 
--- An insertion that begins under this number.
+-- The reply to an insertion that begins under the number `process`.
 abbrev pub started : ℕ → Reply
 started process = Commanded (record (code_only 100) { process = Some process })
 
@@ -454,7 +455,7 @@ informed_of_all later =
     ∷ (Deliver 1 1, Delivered Steady)
     ∷ part_fetched 0 (part_fetched 1 (part_fetched 2 (part_fetched 3 later)))
 
--- Then both list it, and nothing is left to claim.
+-- After the events of `informed_of_all` both members list the publication, and no part can be claimed.
 abbrev pub InformedOfAll : Type 0
 InformedOfAll = Plays plain_outside 2 (informed_of_all (
     (Catalogue 0, Entries (entry 0 1 doc 3 3 abc ∷ []))
@@ -463,7 +464,7 @@ InformedOfAll = Plays plain_outside 2 (informed_of_all (
     ∷ []
     ))
 
--- The join of all is that one entry.
+-- After the events of `informed_of_all` the join of all publications is the entry of the one publication.
 abbrev pub JoinOfThem : Type 0
 JoinOfThem =
     join_of (logs (after_events plain_outside (initial_world plain_outside 2) (map (λ l. l.0) (informed_of_all []))))

@@ -26,7 +26,8 @@ abbrev pub second_withdraws : Environment
 second_withdraws =
     record plain_outside { size = λ _ t. if t.part == 0 then (if t.seq == 2 then 77 else 118) else 79 }
 
--- A withdrawn object is in no catalogue right after a settle, though its parts come; and it isn't withdrawn again.
+-- A withdrawn object is in no catalogue right after a settle, though its parts are received; and it isn't withdrawn
+-- again.
 abbrev pub WithdrawnOnce : Type 0
 WithdrawnOnce = Refuses second_withdraws 2 (
     (Publish 0 (whole doc abc), Published 1 1 1)
@@ -45,7 +46,7 @@ WithdrawnOnce = Refuses second_withdraws 2 (
     ∷ []
     )
 
--- Who holds the withdrawal's record before the object is whole never lists the object.
+-- A member that holds the withdrawal's record before the object is whole never lists the object.
 abbrev pub WithdrawnBefore : Type 0
 WithdrawnBefore = Plays plain_outside 2 (
     (Publish 0 (whole doc abc), Published 1 1 1)
@@ -61,7 +62,7 @@ WithdrawnBefore = Plays plain_outside 2 (
     ∷ []
     )
 
--- Who lists the object lists it until it holds the withdrawal's record, and holds its parts after that too.
+-- A member that lists the object lists it until it holds the withdrawal's record, and holds its parts after that too.
 abbrev pub WithdrawnAfter : Type 0
 WithdrawnAfter = Plays plain_outside 2 (
     (Publish 0 (whole doc abc), Published 1 1 1)
@@ -108,7 +109,7 @@ JoinLessWithdrawn =
 
 -- ---- index packets
 
--- An object of so many segments, each of one octet.
+-- An object of `segments` segments, each of one octet.
 abbrev pub long_object : ℕ → NamedContents
 long_object segments = record { name = doc; contents = replicate segments (codes "A") }
 
@@ -119,7 +120,7 @@ PartsOfLongObjects =
     × (count ((Offers (long_object 201) ∷ []) ∷ []) (0, 1) ≡ 203)
     × (count ((Offers (long_object 20000) ∷ []) ∷ []) (0, 1) ≡ 20100)
 
--- Segments after index packets are wanted once theirs is held.
+-- Segments after index packets are wanted once the index packet that lists them is held.
 abbrev pub AfterIndexPackets : Type 0
 AfterIndexPackets = Plays plain_outside 2 (
     (Publish 0 (long_object 201), Published 1 201 1)
@@ -136,7 +137,7 @@ AfterIndexPackets = Plays plain_outside 2 (
     ∷ []
     )
 
--- So one fetch brings the record, the next the index packets, and the next the segments.
+-- One fetch brings the record, the next the index packets, and the next the segments.
 abbrev pub FetchesInTurn : Type 0
 FetchesInTurn = Plays plain_outside 2 (
     (Publish 0 (long_object 201), Published 1 201 1)

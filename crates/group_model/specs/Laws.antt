@@ -45,15 +45,15 @@ abbrev pub AreQuiet : Environment → World → List Event → Type 0
 AreQuiet env w [] = Unit {0}
 AreQuiet env w (e ∷ es) = IsQuiet w e × AreQuiet env (after_event env w e) es
 
--- The event informs member j of all that p has published: it hears a vector whose place p is the number of p's last
--- publication.
+-- The event informs member `j` of all that member `p` has published: `j` hears a vector whose number for `p` is that of
+-- the last publication of `p`.
 abbrev pub HearsAllInEvent : World → Event → ℕ → ℕ → Type 0
 HearsAllInEvent w (Event.Deliver k i) j p = (i ≡ j) × (slice_index (sent_at w k).vector p ≡ last_of (logs w) p)
 HearsAllInEvent w (Event.Hear i (Some sync)) j p =
     (i ≡ j) × (exceeds_log w i sync ≡ false) × (slice_index sync.vector p ≡ last_of (logs w) p)
 HearsAllInEvent w _ j p = ⊥
 
--- An event of a list informs member j of all that p has published by then.
+-- An event of a list informs member `j` of all that member `p` has published by then.
 abbrev pub HearsAllInRun : Environment → World → List Event → ℕ → ℕ → Type 0
 HearsAllInRun env w [] j p = ⊥
 HearsAllInRun env w (e ∷ es) j p = HearsAllInEvent w e j p ⊎ HearsAllInRun env (after_event env w e) es j p
@@ -63,8 +63,8 @@ pub record EachHearsAll (env : Environment) (w : World) (es : List Event) : Type
   pub quiet : AreQuiet env w es
   pub received : (j p : ℕ) → j < length w.members → p < length w.members → p ≢ j → HearsAllInRun env w es j p
 
--- Where all know of all from here on, and nothing is wanted or deleted in the end, each catalogue is the join of all
--- publications, whatever else happens.
+-- Where events publish nothing and inform each member of all that each other has published, and nothing is wanted or
+-- deleted in the end, each catalogue is the join of all publications, whatever else happens.
 abbrev pub JoinsWhereAllAreInformed : Environment → World → Type 0
 JoinsWhereAllAreInformed env w = (es : List Event) → EventsAreTaken env w es → EachHearsAll env w es →
     let last = after_events env w es in
@@ -72,10 +72,10 @@ JoinsWhereAllAreInformed env w = (es : List Event) → EventsAreTaken env w es �
 
 -- ---- the parts that there are
 
--- They stand in order, each once.
+-- The parts of all publications stand in order, each once.
 abbrev pub PartsRise : Type 0
 PartsRise = (logs : Logs) → Rises part_cmp (all_parts logs)
 
--- They are the records, the index packets and the segments of what was published.
+-- The parts of all publications are the records, the index packets and the segments of what was published.
 abbrev pub PartsAreThose : Type 0
 PartsAreThose = (logs : Logs) (t : Part) → (contains part_cmp (all_parts logs) t ≡ true) ↔ IsPublishedPart logs t

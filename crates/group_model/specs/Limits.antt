@@ -39,21 +39,22 @@ AreInRange (e ∷ es) = IsInRange e × AreInRange es
 
 -- ---- counts
 
--- The draws that were used, the attempts of each part, and the blocks of an insertion.
+-- A member's draws that were used, the attempts of each part and the blocks of an insertion are within these numbers
+-- after `steps` events.
 pub record IsMemberWithin (steps : ℕ) (m : Member) : Type 0 where
   pub draws : m.machine.draws ≤ steps + 1
   pub tried : (t : Part) → tries_of m.attempts t ≤ steps * 16
   pub blocks : (n : ℕ) (p : Process) → value_of nat_cmp m.processes n ≡ Some p → length (indexes p) ≤ 200
 
--- What was counted after so many events.
+-- What was counted after `steps` events is within these numbers.
 pub record IsTallyWithin (steps : ℕ) (t : Tally) : Type 0 where
   pub delivered : t.delivered ≤ steps * 240
   pub attempts : t.attempts ≤ steps * 65536
   pub parts : t.parts ≤ steps * steps * 160808
   pub octets : t.octets ≤ steps * steps * 1415110400
 
--- After so many events the time, what was sent and what was published are within these numbers, and each object has
--- at most 20,000 segments.
+-- After `steps` events the time, what was sent and what was published are within these numbers, and each object has at
+-- most 20,000 segments.
 pub record IsWithinSteps (steps : ℕ) (w : World) : Type 0 where
   pub time : w.time ≤ steps * 1000000000
   pub sent : length w.sent ≤ steps * 16
@@ -64,11 +65,11 @@ pub record IsWithinSteps (steps : ℕ) (w : World) : Type 0 where
 
 -- ---- the laws
 
--- The packets of its parts have at most 8,800 octets.
+-- The packet of each part has at most 8,800 octets.
 abbrev pub HasSmallPackets : Environment → World → Type 0
 HasSmallPackets env w = (t : Part) → env.size (logs w) t ≤ 8800
 
--- So it is before each event of a list.
+-- The packet of each part has at most 8,800 octets before each event of a list.
 abbrev pub AreSmall : Environment → World → List Event → Type 0
 AreSmall env w [] = Unit {0}
 AreSmall env w (e ∷ es) = HasSmallPackets env w × AreSmall env (after_event env w e) es
@@ -83,7 +84,8 @@ abbrev pub StaysWithin : Type 0
 StaysWithin = (env : Environment) (steps : ℕ) (w : World) (e : Event) → steps ≤ 100000 → length w.members ≤ 16
     → HasSmallPackets env w → IsInRange e → IsWithinSteps steps w → IsWithinSteps (steps + 1) (after_event env w e)
 
--- So it is after a settle, except the sync states.
+-- A group of at most 16 members that is within the counts of at most 100,000 events is within those of one more after a
+-- settle without its reset of sync states.
 abbrev pub GatheringStaysWithin : Type 0
 GatheringStaysWithin = (env : Environment) (steps : ℕ) (w : World) → steps ≤ 100000 → length w.members ≤ 16
     → HasSmallPackets env w → IsWithinSteps steps w → IsWithinSteps (steps + 1) (after_gathering env w)
@@ -98,7 +100,7 @@ RunsStayWithin = (env : Environment) (steps : ℕ) (w : World) (es : List Event)
     → steps + length es ≤ 100000 → length w.members ≤ 16 → EventsAreTaken env w es → AreInRange es → AreSmall env w es
     → IsWithinSteps steps w → IsWithinSteps (steps + length es) (after_events env w es)
 
--- So does every run from the beginning of a group.
+-- Every run from the beginning of a group stays within the counts of its events.
 abbrev pub ReachedRunsStayWithin : Type 0
 ReachedRunsStayWithin = (env : Environment) (n : ℕ) (es : List Event) → n ≤ 16 → length es ≤ 100000
     → EventsAreTaken env (initial_world env n) es → AreInRange es → AreSmall env (initial_world env n) es
@@ -109,13 +111,13 @@ abbrev pub PartsStayFew : Type 0
 PartsStayFew = (steps : ℕ) (w : World) → steps ≤ 100000 → IsWithinSteps steps w
     → length (all_parts (logs w)) ≤ 2010100000
 
--- So 64 bits hold each tally.
+-- 64 bits hold each count of the tally.
 pub record FitsIn64Bits (t : Tally) : Type 0 where
   pub delivered : t.delivered < 2 ^ 64
   pub attempts : t.attempts < 2 ^ 64
   pub parts : t.parts < 2 ^ 64
   pub octets : t.octets < 2 ^ 64
 
--- So they do after at most 100,000 events.
+-- After at most 100,000 events 64 bits hold each count of the tally.
 abbrev pub TalliesFit : Type 0
 TalliesFit = (steps : ℕ) (t : Tally) → steps ≤ 100000 → IsTallyWithin steps t → FitsIn64Bits t

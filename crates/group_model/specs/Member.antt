@@ -19,7 +19,7 @@ use Rattle.group_model.specs.Commands.{is_equal_name}
 -- One member of a group.
 pub record Member : Type 0 where
   pub log : List Post  -- what it published, in order
-  pub known : List ℕ  -- its vector: one number a member
+  pub known : List ℕ  -- its vector: a SeqNo for each member
   pub held : List Part  -- in order
   pub hidden : List Pair  -- what it deleted, in order
   pub claims : List (Option Part)  -- by fetcher; the first stands at place 0
@@ -32,13 +32,13 @@ pub record Member : Type 0 where
 abbrev pub member_holds : Member → Part → Bool
 member_holds m t = contains part_cmp m.held t
 
--- It has deleted the publication.
+-- The member has deleted the publication.
 abbrev pub has_deleted : Member → Pair → Bool
 has_deleted m pair = contains pair_cmp m.hidden pair
 
 -- ---- wanted parts
 
--- What the held records say of the parts of their publications.
+-- The part counts of each publication whose record is held.
 abbrev pub held_shapes : Logs → List Part → List (Pair × Shape)
 held_shapes logs held = map (λ t. (pair_of t, shape_at logs (pair_of t))) (filter (λ t. t.part == 0) held)
 
@@ -69,26 +69,26 @@ knows_withdrawn publications m pair =
 abbrev pub is_listed : List Publication → Member → Publication → Bool
 is_listed publications m p = is_object p && (holds_all m p && not (knows_withdrawn publications m (pair_in p)))
 
--- Those, in order.
+-- The publications that a member lists, in order.
 abbrev pub catalogued : Logs → Member → List Publication
 catalogued logs m = filter (is_listed (published logs) m) (published logs)
 
--- Its catalogue: an entry for each of them, in order.
+-- A member's catalogue: an entry for each publication that it lists, in order.
 abbrev pub catalogue : Logs → Member → List Entry
 catalogue logs m = map published_entry (catalogued logs m)
 
--- Those of one object name.
+-- The publications that a member lists under one object name.
 abbrev pub catalogued_under : Logs → Member → List Component → List Publication
 catalogued_under logs m name = filter (λ p. is_equal_name (object_in p).name name) (catalogued logs m)
 
 -- ---- changes
 
--- The set with these keys too.
+-- The set `held` with the parts of a list too.
 abbrev pub insert_keys : List Part → List Part → List Part
 insert_keys [] held = held
 insert_keys (t ∷ ts) held = insert_keys ts (insert_key part_cmp t held)
 
--- It holds these parts too.
+-- The member holds the parts `ts` too.
 abbrev pub gains : List Part → Member → Member
 gains ts m = record m { held = insert_keys ts m.held }
 
@@ -99,20 +99,20 @@ deletes_publication pair m = record m {
   hidden = insert_key pair_cmp pair m.hidden;
 }
 
--- It deletes these publications.
+-- The member deletes the publications of a list.
 abbrev pub deletes_all : List Publication → Member → Member
 deletes_all [] m = m
 deletes_all (p ∷ ps) m = deletes_all ps (deletes_publication (pair_in p) m)
 
--- How often a part was tried, and so many attempts more.
+-- How often a part was tried.
 abbrev pub tries_of : List (Part × ℕ) → Part → ℕ
 tries_of tried t = unwrap_or (value_of part_cmp tried t) 0
 
--- A part was tried so often more.
+-- The part `t` was tried `n` times more.
 abbrev pub with_tries : Part → ℕ → List (Part × ℕ) → List (Part × ℕ)
 with_tries t n tried = if n == 0 then tried else with_value part_cmp t (tries_of tried t + n) tried
 
--- Each of these parts was tried so often more.
+-- Each part `t` of a list was tried `more t` times more.
 abbrev pub with_each_tried : (Part → ℕ) → List Part → List (Part × ℕ) → List (Part × ℕ)
 with_each_tried more [] tried = tried
 with_each_tried more (t ∷ ts) tried = with_each_tried more ts (with_tries t (more t) tried)

@@ -31,7 +31,7 @@ post_at logs pair = slice_index_or (slice_index_or logs pair.0 []) (pair.1 - 1) 
 abbrev pub last_of : Logs → ℕ → ℕ
 last_of logs publisher = length (slice_index_or logs publisher [])
 
--- What the record of a publication says of its parts.
+-- The part counts of a publication.
 abbrev pub shape_at : Logs → Pair → Shape
 shape_at logs pair = shape_in (post_at logs pair)
 
@@ -47,17 +47,17 @@ pub record Publication : Type 0 where
   pub seq : ℕ
   pub post : Post
 
--- Its publisher and number.
+-- The publisher and the number of a publication.
 abbrev pub pair_in : Publication → Pair
 pair_in p = (p.publisher, p.seq)
 
--- A member's publications, numbered from a number on.
+-- A member's publications, numbered from `seq` on.
 abbrev pub numbered_publications : ℕ → ℕ → List Post → List Publication
 numbered_publications publisher seq [] = []
 numbered_publications publisher seq (o ∷ os) =
     record { publisher = publisher; seq = seq; post = o } ∷ numbered_publications publisher (seq + 1) os
 
--- The publications of the members from a member on.
+-- The publications of the members from the member `publisher` on.
 abbrev pub published_from : ℕ → Logs → List Publication
 published_from publisher [] = []
 published_from publisher (log ∷ logs) = numbered_publications publisher 1 log ++ published_from (publisher + 1) logs
@@ -80,7 +80,7 @@ all_parts logs = flat_map parts_in (published logs)
 abbrev pub is_object : Publication → Bool
 is_object p = is_some (offered p.post)
 
--- It is the withdrawal of that publication.
+-- The publication `q` is the withdrawal of the publication `pair`.
 abbrev pub withdraws : Pair → Publication → Bool
 withdraws pair q = q.publisher == pair.0 && withdraws_number q.post pair.1
 
@@ -96,7 +96,7 @@ has_unwithdrawn log seq =
 
 -- ---- the catalogue
 
--- The object of a publication that is one.
+-- The object of a publication; an object without a name where the publication is a withdrawal.
 abbrev pub object_in : Publication → NamedContents
 object_in p = unwrap_or (offered p.post) no_object
 
@@ -111,6 +111,6 @@ published_entry p = record {
   digest = sha256 (concat (object_in p).contents);
 }
 
--- The join of all: every object that is not withdrawn, in order.
+-- The join of all publications: an entry for every object that is not withdrawn, in order.
 abbrev pub join_of : Logs → List Entry
 join_of logs = map published_entry (filter (is_unwithdrawn (published logs)) (published logs))

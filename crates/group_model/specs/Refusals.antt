@@ -25,7 +25,7 @@ pub data Refusal : Type 0 where
 
 -- ---- foreign octets
 
--- Such a sync Interest was sent.
+-- A sync Interest of that sender with that vector was sent.
 abbrev pub has_sent : World → SyncInterest → Bool
 has_sent w sync = list_any (λ s. s.sender == sync.sender && bytes_eq s.vector sync.vector) w.sent
 
@@ -36,7 +36,7 @@ has_issued w j order =
 
 -- ---- what refuses an event
 
--- Refused unless this holds.
+-- The event is refused with `refusal`, unless `holds` is true.
 abbrev pub unless : Bool → Refusal → Option Refusal
 unless holds refusal = if holds then None else Some refusal
 
@@ -49,37 +49,38 @@ abbrev pub if_busy : Option Part → Option Refusal
 if_busy None = None
 if_busy (Some t) = Some Refusal.FetcherBusy
 
--- Refused where it claims none.
+-- Refused where the fetcher claims no part.
 abbrev pub if_idle : Option Part → Option Refusal
 if_idle None = Some Refusal.FetcherIdle
 if_idle (Some t) = None
 
--- There is no claim that it came for, or it passes its checks and isn't the publisher's packet.
+-- Refused where the fetcher claims no part, or where the packet passes its checks and isn't the publisher's.
 abbrev pub if_idle_or_foreign : Option Part → Response → Option Refusal
 if_idle_or_foreign None came = Some Refusal.FetcherIdle
 if_idle_or_foreign (Some t) Another = Some Refusal.Foreign
 if_idle_or_foreign (Some t) _ = None
 
--- A vector that reports too many publications of the member itself is refused for that, and not as foreign.
+-- A sync Interest that nobody sent is foreign, unless it reports more publications of the member than it made.
 abbrev pub if_unsent : World → ℕ → Option SyncInterest → Option Refusal
 if_unsent w j None = None
 if_unsent w j (Some sync) = if exceeds_log w j sync then None else unless (has_sent w sync) Refusal.Foreign
 
--- A command that passes its checks was made for the member.
+-- A command that passes its checks and that its client didn't make for the member is foreign.
 abbrev pub if_unissued : World → ℕ → Result (ℕ × Command) ℕ → Option Refusal
 if_unissued w j (Ok order) = unless (has_issued w j order) Refusal.Foreign
 if_unissued w j (Err code) = None
 
--- A member has at most 65,535 publications.
+-- A publication is refused where the member has 65,535 of them.
 abbrev pub if_spent : World → ℕ → Option Refusal
 if_spent w j = unless (not (nat_le 65535 (length (member w j).log))) Refusal.NumbersSpent
 
--- A member withdraws an object of its own that it has not withdrawn.
+-- A withdrawal is refused where the member has published no such object or has withdrawn it, or has 65,535
+-- publications.
 abbrev pub if_no_object_or_spent : World → ℕ → ℕ → Option Refusal
 if_no_object_or_spent w j seq =
     if has_unwithdrawn (member w j).log seq then if_spent w j else Some Refusal.NoSuchNumber
 
--- A block that makes an insertion whole is one more publication.
+-- A block that makes an insertion whole is refused where the member has 65,535 publications.
 abbrev pub if_whole : World → ℕ → BlockState → Option Refusal
 if_whole w j (Whole p) = if_spent w j
 if_whole w j _ = None
@@ -101,7 +102,7 @@ refusal env w _ = None
 
 -- ---- events that are taken
 
--- There is such a member, and such a fetcher.
+-- The group has the member `j`, and the member has the fetcher `f`.
 abbrev pub IsFetcherOf : World → ℕ → ℕ → Type 0
 IsFetcherOf w j f = (j < length w.members) × (1 ≤ f) × (f ≤ 16)
 
@@ -136,7 +137,7 @@ pub record EventIsTaken (env : Environment) (w : World) (e : Event) : Type 0 whe
   pub named : NamesThose w e
   pub taken : refusal env w e ≡ None
 
--- Each event of a list is taken when its turn comes.
+-- Each event of a list is taken in the group as it is then.
 abbrev pub EventsAreTaken : Environment → World → List Event → Type 0
 EventsAreTaken env w [] = Unit {0}
 EventsAreTaken env w (e ∷ es) = EventIsTaken env w e × EventsAreTaken env (after_event env w e) es

@@ -1,4 +1,4 @@
--- The outcome of an event, and the same as one of all replies.
+-- The outcome of an event, and the same outcome as a value of the one type `Reply`.
 use Rattle.std.specs.Prelude.{ℕ, Bool, List, Option, Some, None, Result, Ok, Err, if◌then◌else◌}
 use Rattle.repo_plan.specs.declared.part.Part.{Part}
 use Rattle.svs_sync.specs.declared.fired.Fired.{Fired}
@@ -57,8 +57,8 @@ pub record TrafficOutcome : Type 0 where
   pub parts : ℕ
   pub octets : ℕ
 
--- Of octets that are a sync Interest, the member's mode afterwards; or how many publications it has made, and the
--- greater number that the vector has of it.
+-- The outcome of octets that a member hears. If they are a sync Interest, it is the member's mode afterwards; or how
+-- many publications the member has made, and the greater number that the vector has of it.
 abbrev pub HearOutcome : Option SyncInterest → Type 0
 HearOutcome None = Unit {0}
 HearOutcome (Some sync) = Result Mode (ℕ × ℕ)
@@ -89,7 +89,7 @@ OutcomeOf (Event.Block j process index content) = BlockOutcome
 OutcomeOf Event.Summary = List CatalogueTotals
 OutcomeOf Event.Traffic = TrafficOutcome
 
--- ---- as one of all replies
+-- ---- outcomes as values of one type
 
 -- The reply to an event.
 pub data Reply : Type 0 where

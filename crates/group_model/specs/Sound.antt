@@ -9,17 +9,17 @@ use Rattle.group_model.specs.Publications.{Logs, last_of, count, shape_at}
 use Rattle.group_model.specs.Member.{Member, member_holds, has_deleted, plan_of}
 use Rattle.group_model.specs.World.{World, no_sync, member, logs}
 
--- There is such a publication.
+-- The publication `pair` was published.
 pub record IsPublished (logs : Logs) (pair : Pair) : Type 0 where
   pub from_one : 1 ≤ pair.1
   pub to_last : pair.1 ≤ last_of logs pair.0
 
--- There is such a part: it is the record, an index packet or a segment of a publication that there is.
+-- The part `t` is the record, an index packet or a segment of a publication that was published.
 pub record IsPublishedPart (logs : Logs) (t : Part) : Type 0 where
   pub there : IsPublished logs (pair_of t)
   pub counted : t.part ≤ count logs (pair_of t)
 
--- A vector reports the publication.
+-- The vector `known` reports the publication `pair`.
 pub record IsKnown (known : List ℕ) (pair : Pair) : Type 0 where
   pub from_one : 1 ≤ pair.1
   pub to_known : pair.1 ≤ slice_index known pair.0
@@ -28,24 +28,24 @@ pub record IsKnown (known : List ℕ) (pair : Pair) : Type 0 where
 abbrev pub IsWithinLogs : Logs → List ℕ → Type 0
 IsWithinLogs logs v = (p : ℕ) → slice_index v p ≤ last_of logs p
 
--- Such a vector, with one number a member.
+-- A vector with one number for each member, which reports no publication that there isn't.
 pub record IsConsistentVector (logs : Logs) (v : List ℕ) : Type 0 where
   pub width : length v ≡ length logs
   pub no_more : IsWithinLogs logs v
 
--- The join of the vectors that were heard since the member was last Steady.
+-- If the member is Suppressed, the join of the vectors that it heard since it was last Steady is a consistent vector.
 abbrev pub HeardConsistently : Logs → Option (List ℕ) → Type 0
 HeardConsistently logs None = Unit {0}
 HeardConsistently logs (Some heard) = IsConsistentVector logs heard
 
--- The lists are in order, each thing once, and no attempts are counted as 0.
+-- The lists of a member are in order, each thing once, and no attempts are counted as 0.
 pub record IsMemberInOrder (m : Member) : Type 0 where
   pub held : Rises part_cmp m.held
   pub hidden : Rises pair_cmp m.hidden
   pub attempts : Rises part_cmp (keys m.attempts)
   pub tried : (t : Part) (n : ℕ) → value_of part_cmp m.attempts t ≡ Some n → 0 < n
 
--- A held part is one of a known publication, whose record is held too, and so is the part that lists it.
+-- A held part is one of a known publication. The record of that publication is held too, and the part that lists it.
 pub record IsHeldSoundly (logs : Logs) (vector : List ℕ) (held : List Part) (t : Part) : Type 0 where
   pub known : IsKnown vector (pair_of t)
   pub counted : t.part ≤ count logs (pair_of t)
@@ -57,8 +57,8 @@ pub record IsDeletedSoundly (m : Member) (pair : Pair) : Type 0 where
   pub known : IsKnown m.known pair
   pub none_held : (x : ℕ) → member_holds m (part_of pair x) ≡ false
 
--- A member, of this number. Its own publications are deleted or held whole; a claimed part is wanted; and two fetchers
--- claim different parts.
+-- A sound member `j`. Its vector has one number for each member, and reports no publication that there isn't. Its own
+-- publications are deleted or held whole; a claimed part is wanted; and two fetchers claim different parts.
 pub record IsSoundMember (logs : Logs) (j : ℕ) (m : Member) : Type 0 where
   pub width : length m.known ≡ length logs
   pub fetchers : length m.claims ≡ 16

@@ -49,7 +49,7 @@ unclaimed_at w j = unclaimed (plan_of (logs w) (member w j))
 abbrev pub to_claim : World → ℕ → Option Part
 to_claim w j = first (unclaimed_at w j)
 
--- It claims that part, where there is one.
+-- Fetcher `f` of member `j` claims the given part, if there is one.
 abbrev pub after_claiming : World → ℕ → ℕ → Option Part → World
 after_claiming w j f None = w
 after_claiming w j f (Some t) = with_member w j (member_with_claim f (Some t) (member w j))
@@ -64,11 +64,11 @@ with_sync w j = record w { sent = w.sent ++ record { sender = j; vector = (membe
 abbrev pub timer_at : World → ℕ → Fired
 timer_at w j = when_fired w.time (member w j).known (member w j).machine
 
--- A vector reports more publications of the member than there are.
+-- The vector of a sync Interest reports more publications of the member than it made.
 abbrev pub exceeds_log : World → ℕ → SyncInterest → Bool
 exceeds_log w j sync = nat_lt (length (member w j).log) (slice_index sync.vector j)
 
--- ---- parts that come
+-- ---- parts that are received
 
 -- The response passes the checks of the claimed part.
 abbrev pub passes_checks : Response → Bool
@@ -81,7 +81,7 @@ abbrev pub response_from : Environment → World → ℕ → Option Part → Res
 response_from env w q None = Nothing
 response_from env w q (Some t) = env.serves (logs w) (member w q).held t
 
--- What octets are for a claim.
+-- What octets from outside are as a response to a claim.
 abbrev pub response_read : World → (Logs → Part → Response) → Option Part → Response
 response_read w read None = Nothing
 response_read w read (Some t) = read (logs w) t
@@ -90,7 +90,7 @@ response_read w read (Some t) = read (logs w) t
 abbrev pub tried_once : World → World
 tried_once w = record w { tally = record w.tally { attempts = w.tally.attempts + 1 } }
 
--- A fetcher's claim is over with its part held, and the part is counted.
+-- The part of a fetcher is held from now on, its claim is over, and the part is counted.
 abbrev pub after_part : Environment → World → ℕ → ℕ → Part → World
 after_part env w j f t = record (with_member w j (takes f t (member w j))) {
   tally = record w.tally { parts = w.tally.parts + 1; octets = w.tally.octets + env.size (logs w) t };
@@ -105,12 +105,12 @@ after_response env w j f (Some t) Another = after_part env w j f t
 
 -- ---- a settle
 
--- The vector of every member afterwards.
+-- The vector of every member after a settle.
 abbrev pub settled_vector : World → List ℕ
 settled_vector w = join_all (map (λ m. m.known) w.members)
 
--- A part of a publication that is known then and isn't deleted, which someone holds, with its record, and which isn't
--- held yet.
+-- The member `m` gains the part `t` in a settle: the settled vector reports the publication, which the member hasn't
+-- deleted; someone holds the part, and someone its record; and the member doesn't hold the part yet.
 abbrev pub is_gained : World → Member → Part → Bool
 is_gained w m t =
     nat_le t.seq (slice_index (settled_vector w) t.publisher)
@@ -125,12 +125,12 @@ new_parts w m = filter (is_gained w m) (all_parts (logs w))
 abbrev pub settle_new_parts : World → ℕ
 settle_new_parts w = sum_by (λ m. length (new_parts w m)) w.members
 
--- What it makes of a member, except its sync state: the member knows what all know, its claims end, and the new parts
--- come.
+-- A member after a settle, except its sync state: it knows what all know, its claims have ended, and it holds the new
+-- parts too.
 abbrev pub settled_member : World → Member → Member
 settled_member w m = record (gains (new_parts w m) (member_without_claims m)) { known = settled_vector w }
 
--- The sync Interests of the members from a member on.
+-- The sync Interests of the members from the member `j` on.
 abbrev pub syncs_of : ℕ → List Member → List SyncInterest
 syncs_of j [] = []
 syncs_of j (m ∷ ms) = record { sender = j; vector = m.known } ∷ syncs_of (j + 1) ms
@@ -145,7 +145,7 @@ planned_parts w j = take 4096 (unclaimed_at w j)
 abbrev pub others_of : World → ℕ → List Member
 others_of w j = slice_set w.members j no_member
 
--- The first of so many attempts that the network passes, where another member holds the part.
+-- The first of `tries` attempts that the network passes, where another member holds the part.
 abbrev pub attempt : Environment → World → (j tries loss : ℕ) → Part → Option ℕ
 attempt env w j tries loss t =
     if someone_holds (others_of w j) t
@@ -156,15 +156,15 @@ attempt env w j tries loss t =
 abbrev pub fetched_parts : Environment → World → (j tries loss : ℕ) → List Part
 fetched_parts env w j tries loss = filter (λ t. is_some (attempt env w j tries loss t)) (planned_parts w j)
 
--- How many attempts a part takes.
+-- How many attempts a fetch makes for a part.
 abbrev pub attempts_for : Environment → World → (j tries loss : ℕ) → Part → ℕ
 attempts_for env w j tries loss t = unwrap_or (attempt env w j tries loss t) tries
 
--- How many attempts it makes.
+-- How many attempts a fetch makes for all its parts.
 abbrev pub attempts_made : Environment → World → (j tries loss : ℕ) → ℕ
 attempts_made env w j tries loss = sum_by (attempts_for env w j tries loss) (planned_parts w j)
 
--- What it makes of the member: those parts are held, and the attempts of each are counted.
+-- The member after a fetch: it holds the parts that the fetch brought, and the attempts of each part are counted.
 abbrev pub fetches : Environment → World → (j tries loss : ℕ) → Member → Member
 fetches env w j tries loss m = record (gains (fetched_parts env w j tries loss) m) {
   attempts = with_each_tried (attempts_for env w j tries loss) (planned_parts w j) m.attempts;
@@ -208,7 +208,7 @@ abbrev pub after_order : World → ℕ → Result (ℕ × Command) ℕ → World
 after_order w j (Ok order) = after_command w j order.1
 after_order w j (Err code) = w
 
--- The answer to them.
+-- The answer to octets that were read as a command, or refused.
 abbrev pub order_answer : World → ℕ → Result (ℕ × Command) ℕ → Answer
 order_answer w j (Ok order) = command_answer w j order.1
 order_answer w j (Err code) = code_only code
@@ -221,11 +221,11 @@ after_issue w j client command =
 
 -- ---- blocks
 
--- What a block would be for its process.
+-- The result of a block for its process.
 abbrev pub block_at : World → ℕ → (process index : ℕ) → List ℕ → BlockState
 block_at w j process index content = block_state (member w j).processes process index content
 
--- A process of a member is this one from now on.
+-- Member `j` has the process `p` under `number` from now on.
 abbrev pub with_process_at : World → ℕ → ℕ → Process → World
 with_process_at w j number p = with_member w j (member_with_process number p (member w j))
 
@@ -253,7 +253,8 @@ module _ (env : Environment) where
     tally = record w.tally { delivered = w.tally.delivered + 1 };
   }
 
-  -- Octets that are refused, or that have too great a number, change nothing.
+  -- A member hears octets. Those that are refused, or whose vector reports more publications of the member than it
+  -- made, change nothing.
   abbrev pub after_hear : World → ℕ → Option SyncInterest → World
   after_hear w j None = w
   after_hear w j (Some sync) = if exceeds_log w j sync then w else after_deliver w j sync.vector
@@ -284,7 +285,7 @@ module _ (env : Environment) where
     };
   }
 
-  -- The sync states of the members from a member on are reset, each with its next draw.
+  -- The sync states of the members from the member `j` on are reset, each with its next draw.
   abbrev pub reset_each : (time j : ℕ) → List Member → List Member
   reset_each time j [] = []
   reset_each time j (m ∷ ms) = resets (env.draw j m.machine.draws) time m ∷ reset_each time (j + 1) ms
@@ -309,7 +310,7 @@ module _ (env : Environment) where
 
   -- ---- any event
 
-  -- What an event makes of the group.
+  -- The group after an event.
   abbrev pub after_event : World → Event → World
   after_event w (Event.Publish j o) = after_publish w j (Offers o)
   after_event w (Event.Withdraw j seq) = after_publish w j (Withdraws seq)
@@ -337,7 +338,7 @@ module _ (env : Environment) where
   after_event w Event.Summary = w
   after_event w Event.Traffic = w
 
-  -- What a list of events makes of it.
+  -- The group after a list of events.
   abbrev pub after_events : World → List Event → World
   after_events w [] = w
   after_events w (e ∷ es) = after_events (after_event w e) es

@@ -18,38 +18,39 @@ pub record IsListedByHeld (logs : Logs) (m : Member) (t : Part) : Type 0 where
   pub counted : t.part ≤ count logs (pair_of t)
   pub with_parent : member_holds m (parent (shape_at logs (pair_of t)) t) ≡ true
 
--- A record, or such a part, of a known publication that isn't deleted, and that isn't held.
+-- A part that the member wants: a record, or a part that a held part lists. It is of a known publication that isn't
+-- deleted, and it isn't held.
 pub record IsWantedPart (logs : Logs) (m : Member) (t : Part) : Type 0 where
   pub known : IsKnown m.known (pair_of t)
   pub part : (t.part ≡ 0) ⊎ IsListedByHeld logs m t
   pub not_held : member_holds m t ≡ false
   pub not_hidden : has_deleted m (pair_of t) ≡ false
 
--- Of what the member holds any part of, it holds the record.
+-- The member holds the record of each publication of which it holds a part.
 abbrev pub HoldsRecords : Member → Type 0
 HoldsRecords m = (t : Part) → member_holds m t ≡ true → member_holds m (record_of t) ≡ true
 
--- So does every member of the group.
+-- Every member of the group holds the record of each publication of which it holds a part.
 abbrev pub AllHoldRecords : Environment → World → Type 0
 AllHoldRecords env w = (j : ℕ) → j < length w.members → HoldsRecords (member w j)
 
--- The wanted parts are those.
+-- The wanted parts of a member's plan are those of `IsWantedPart`.
 abbrev pub WantsThose : Type 0
 WantsThose = (logs : Logs) (m : Member) (t : Part) → HoldsRecords m
     → (contains part_cmp (wanted (plan_of logs m)) t ≡ true) ↔ IsWantedPart logs m t
 
--- So does the plan's test say, part by part.
+-- The plan's test says of each part whether it is one of `IsWantedPart`.
 abbrev pub TestsThose : Type 0
 TestsThose = (logs : Logs) (m : Member) (t : Part) → HoldsRecords m
     → (is_wanted (plan_of logs m) t ≡ true) ↔ IsWantedPart logs m t
 
--- What a fetcher claims is wanted, no fetcher claims it yet, and every other such part comes later.
+-- The part `t` is wanted, no fetcher claims it, and every other wanted part that no fetcher claims comes later.
 pub record IsFirstOpen (logs : Logs) (m : Member) (t : Part) : Type 0 where
   pub wanted : IsWantedPart logs m t
   pub unclaimed : is_claimed (plan_of logs m) t ≡ false
   pub first : (u : Part) → IsWantedPart logs m u → is_claimed (plan_of logs m) u ≡ false → u ≢ t → part_cmp t u ≡ Less
 
--- What a fetcher would claim is the first of these.
+-- The part that a fetcher would claim is the first that is wanted and that no fetcher claims.
 abbrev pub ClaimsFirst : Type 0
 ClaimsFirst =
     (w : World) (j : ℕ) (t : Part) → HoldsRecords (member w j) → to_claim w j ≡ Some t
@@ -59,7 +60,7 @@ ClaimsFirst =
 abbrev pub AllClaimed : Logs → Member → Type 0
 AllClaimed logs m = (t : Part) → IsWantedPart logs m t → is_claimed (plan_of logs m) t ≡ true
 
--- Nothing is claimed exactly where every wanted part is.
+-- A fetcher would claim nothing exactly where every wanted part is claimed.
 abbrev pub ClaimsNoneWhere : Type 0
 ClaimsNoneWhere = (w : World) (j : ℕ) → HoldsRecords (member w j)
     → (to_claim w j ≡ None) ↔ AllClaimed (logs w) (member w j)

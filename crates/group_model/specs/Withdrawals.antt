@@ -9,8 +9,8 @@ use Rattle.group_model.specs.Steps.{after_event}
 use Rattle.group_model.specs.Sound.{IsPublished}
 use Rattle.group_model.specs.Refusals.{EventIsTaken}
 
--- What was published under this pair withdraws that number of its publisher's rightly: an object was published under
--- it, before, and nothing else withdraws it.
+-- The publication `pair` rightly withdraws the number `seq` of its publisher: an object was published under `seq`,
+-- before, and no other publication withdraws it.
 pub record WithdrawsRightly (logs : Logs) (pair : Pair) (seq : ℕ) : Type 0 where
   pub from_one : 1 ≤ seq
   pub earlier : seq < pair.1
@@ -18,16 +18,16 @@ pub record WithdrawsRightly (logs : Logs) (pair : Pair) (seq : ℕ) : Type 0 whe
   pub once : (u : ℕ) → IsPublished logs (pair.0, u) → withdraws_number (post_at logs (pair.0, u)) seq ≡ true
       → u ≡ pair.1
 
--- So does every withdrawal.
+-- Every withdrawal withdraws its object rightly.
 abbrev pub AllWithdrawRightly : Logs → Type 0
 AllWithdrawRightly logs = (pair : Pair) (seq : ℕ) → IsPublished logs pair
     → withdraws_number (post_at logs pair) seq ≡ true → WithdrawsRightly logs pair seq
 
--- So it is in a group in which nothing has happened, and it stays so after any event that is taken.
+-- Every withdrawal is right in a group in which nothing has happened.
 abbrev pub BeginsRightly : Type 0
 BeginsRightly = (env : Environment) (n : ℕ) → AllWithdrawRightly (logs (initial_world env n))
 
--- An event that is taken withdraws rightly.
+-- Where every withdrawal is right, it stays so after any event that is taken.
 abbrev pub StaysRightly : Environment → World → Type 0
 StaysRightly env w = (e : Event) → EventIsTaken env w e → AllWithdrawRightly (logs w)
     → AllWithdrawRightly (logs (after_event env w e))

@@ -1,7 +1,7 @@
 ghost use Rattle.group_model.specs.OneMember.{JoinsByItself};
 
-/// Over any publications, a member that knows of all, has deleted nothing and wants nothing lists their join. So it
-/// is for a member that was taken out of its group, and whatever the others are.
+/// Over any publications, a member that knows of all, has deleted nothing and wants nothing lists their join, whatever
+/// its group and the other members are.
 pub fn one_member_joins_by_itself()
     ensures joins { JoinsByItself }
 {}

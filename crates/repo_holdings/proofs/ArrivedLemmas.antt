@@ -1,4 +1,4 @@
--- Packets that are stored once all that came is taken, and the contents of what becomes whole by them.
+-- Packets that are stored once all received packets are taken, and the contents of objects that become whole by them.
 use Rattle.std.proofs.Common.{◌≡◌, ◌<◌, ◌+◌, ◌++◌, take, ℕ, zero, suc, Bor, Bool, true, false, cond, List, [], ◌∷◌}
 use Rattle.std.proofs.Common.{map, length, get_or, slice_get}
 use Rattle.std.proofs.Common.{refl, sym, ap, ◌∙◌, subst, Option, Some, None, option_map, is_some, arith}
@@ -34,7 +34,7 @@ use Rattle.repo_holdings.proofs.ContentLemmas.{flat_append, append_nothing}
 use Rattle.repo_holdings.proofs.GainingLemmas.{contains-value, put_here, shape_stored}
 use Rattle.repo_holdings.proofs.FreshLemmas.{StayStored, fetched_stays}
 
--- ---- packets that came
+-- ---- packets that were received
 
 missing_apart : (packets : List Packet) (u : Part) (octets : List ℕ) (q : Part) → eq_by_cmp part_cmp q u ≡ false
     → value_of part_cmp packets q ≡ None → value_of part_cmp (with_packet u octets packets) q ≡ None
@@ -56,7 +56,7 @@ other_at (job ∷ jobs) u zero d h low = (or_parts (eq_by_cmp part_cmp u job.wan
 other_at (job ∷ jobs) u (suc i) d h low =
     other_at jobs u i d (or_parts (eq_by_cmp part_cmp u job.want.part) _ h).1 (omega (arith, low))
 
--- a packet that came for a part of which none was stored
+-- a packet that was received for a part of which none was stored
 pub received_at : (jobs : List Job) (parts : List (Option CheckedPart)) (packets : List Packet) (i : ℕ) (d : Job)
     (c : CheckedPart) → PartsDiffer (map job_part jobs) → i < length jobs
     → value_of part_cmp packets (get_or jobs i d).want.part ≡ None → slice_get parts i ≡ Some (Some c)

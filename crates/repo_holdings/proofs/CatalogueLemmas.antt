@@ -244,7 +244,7 @@ pub same_whole : (old new : List Packet) (pair : Pair) → ((x : ℕ) → stored
 same_whole old new pair h =
     ap (λ (at : ℕ → Option (List ℕ)). entry_from at pair) (fun_ext (stored_at new pair) (stored_at old pair) h)
 
--- and have the same entry, where they are withdrawn or not as before
+-- publications with the same packets have the same entry, where they are withdrawn or not as before
 pub same_entry : (old new : List Packet) (pair : Pair) → ((x : ℕ) → stored_at new pair x ≡ stored_at old pair x)
     → is_withdrawn new pair ≡ is_withdrawn old pair → entry_at new pair ≡ entry_at old pair
 same_entry old new pair h w =

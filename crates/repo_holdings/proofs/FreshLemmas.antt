@@ -315,7 +315,7 @@ few_more Nothing fresh gone = (omega arith, omega arith)
 few_more (Lists e) fresh gone = (omega (arith, length-append fresh (e ∷ [])), omega arith)
 few_more (Removes publisher seq) fresh gone = (omega arith, omega (arith, length-append gone ((publisher, seq) ∷ [])))
 
--- a change waits, as the others do
+-- a change is added to those that wait
 pub waits_more : (change : Change) (old new : Pending) (packets after : List Packet)
     → new.fresh.items ≡ fresh_with old.fresh.items change → new.gone.items ≡ gone_with old.gone.items change
     → vec_capacity old.fresh ≤ vec_capacity new.fresh → vec_capacity old.gone ≤ vec_capacity new.gone
@@ -359,7 +359,7 @@ fetched_stays (x ∷ xs) packets q o there =
       one None = there
       one (Some octets) = put_stays packets x.part octets q o there
 
--- what holds of so many numbers holds of the last of them
+-- what holds of the first `i + n` numbers holds of the last `n` of them
 numbers_after : (p : ℕ → Bool) (i n : ℕ) → list_all p (numbers_from 1 (i + n)) ≡ true
     → list_all p (numbers_from (i + 1) n) ≡ true
 numbers_after p i n h =
@@ -448,7 +448,7 @@ module _ (packets after : List Packet) (pair : Pair) (e : Entry) (stays : StaySt
   pub whole_stays : whole_at packets pair ≡ Some e → whole_at after pair ≡ Some e
   whole_stays h = at_record (stored_at packets pair 0) refl h
 
--- ---- digests that are told
+-- ---- digests that are reported
 
 digest_sooner : (packets after : List Packet) (d : ContentsDigest) → StayStored packets after → IsDigestIn after d
     → IsDigestIn packets d

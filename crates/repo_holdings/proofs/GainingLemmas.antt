@@ -103,7 +103,7 @@ module _ (packets : List Packet) (t : Part) (octets : List ℕ)
       → stored_at (with_packet t octets packets) (pair_of t) 0 ≡ stored_at packets (pair_of t) 0
   record_stays p = record_put ∙ ap (λ (b : Bool). cond b (Some octets) (stored_at packets (pair_of t) 0)) p
 
--- ---- what is told
+-- ---- what is reported
 
 record_stated : (o : Option RecordSays) → option_map summary_shape (option_map summary_of o)
     ≡ option_map shape_stated o

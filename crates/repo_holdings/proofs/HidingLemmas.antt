@@ -176,7 +176,8 @@ packets_all : (packets : List Packet) → packets_outside_all [] packets ≡ pac
 packets_all [] = refl
 packets_all (e ∷ es) = ap (λ (rest : List Packet). e ∷ rest) (packets_all es)
 
--- what is left after one publication after another is what is left after all at once
+-- packets that remain when publications are dropped one after another are those that remain when all are dropped at
+-- once
 pub outside_at_once : (pairs : List Pair) (packets : List Packet)
     → outside_all pairs packets ≡ packets_outside_all pairs packets
 outside_at_once [] packets = sym (packets_all packets)

@@ -103,7 +103,7 @@ module _ (old new : List Packet) (pair : Pair) (withdrawn : List Pair) (old_orde
       one_more seq
       (ap (option_and_then (entry_listed new pair)) (withdrawal_lists_none new pair (Withdrawal seq) seq says refl)) are
 
--- ---- one packet that came
+-- ---- one packet that was received
 
 module _ (s : Stock) (after : List Packet) (t : Part) (octets : List ℕ) (summary : Option RecordSummary)
     (sound : IsSound s) (arrival : IsArrival s.store.packets t octets summary) (missing : IsMissing s.plan t)

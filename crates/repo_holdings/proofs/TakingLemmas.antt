@@ -1,4 +1,4 @@
--- What came of parts that were asked for, taken part after part.
+-- The results of parts that were asked for, taken part after part.
 use Rattle.std.proofs.Common.{◌≡◌, ℕ, ◌+◌, ◌*◌, ◌<◌, ◌≤◌, Bool, true, false, cond, ◌==◌, List, [], ◌∷◌, map, length}
 use Rattle.std.proofs.Common.{refl, sym, ap, ◌∙◌, subst, Option, Some, None, option_map, is_some, unwrap_or, sum_by}
 use Rattle.std.proofs.Common.{Result, Err, ltb, arith, ◌&&◌}
@@ -143,7 +143,7 @@ module _ (old new : Stock) (x : Tried) (was : IsSound old) (now : IsSound new)
   asked_still : (t : Part) → may_be_asked_for old.plan t ≡ true → may_be_asked_for new.plan t ≡ true
   asked_still t asked = asked_kept old.plan new.plan t kept asked
 
-  -- another part that came
+  -- the packet received for another part
   arrival_still : (t : Part) (octets : List ℕ) (summary : Option RecordSummary) → may_be_asked_for old.plan t ≡ true
       → IsArrival earlier t octets summary → IsArrival later t octets summary
   arrival_still t octets summary asked is = record {
@@ -241,9 +241,9 @@ keeps_on a b c first then = record {
   attempts = refl;
 }
 
--- ---- how many octets came
+-- ---- how many octets were received
 
--- octets that are a Data packet aren't many
+-- a Data packet has at most 8800 octets
 data_fits : (octets : List ℕ) → IsOk (data_of octets) → length octets ≤ 8800
 data_fits octets h =
     go (first_of (Tlv (Truncated 0)) 0 octets >>= only_of 0x06 (length octets))

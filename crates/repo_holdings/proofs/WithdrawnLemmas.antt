@@ -1,4 +1,4 @@
--- Which publications stored records withdraw, where the record of one came, went, or stayed.
+-- Which publications stored records withdraw, where a record was stored, was dropped, or stayed.
 use Rattle.std.proofs.Common.{◌≡◌, ℕ, Bool, true, false, cond, not, ◌||◌, List, [], ◌∷◌, refl, sym, ap, ◌∙◌, Option}
 use Rattle.std.proofs.Common.{Some}
 use Rattle.std.proofs.Common.{None, is_some, option_map}
@@ -142,9 +142,9 @@ module _ (old new : List Packet) (pair : Pair) (old_order : Rises part_cmp (keys
             (sym there)
             ∙ object)
 
--- ---- as it is told
+-- ---- as it is reported
 
--- what is reported of a record withdraws what that does
+-- the summary of a record withdraws what the record withdraws
 pub withdraws_stated : (pair : Pair) (octets : List ℕ) (summary : RecordSummary)
     → option_map summary_of (stated_in octets) ≡ Some summary
     → (q : Pair) → withdraws q (pair, octets) ≡ withdraws_too pair (Some summary) q

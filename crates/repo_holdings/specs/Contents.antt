@@ -16,6 +16,6 @@ pub record IsDigestOfEntry (d : ContentsDigest) (e : Entry) : Type 0 where
   pub octets : d.octets ≡ e.octets
   pub digest : d.digest ≡ e.digest
 
--- what is given is right for the publication, where it is stored whole
+-- the number of octets and the digest in `d` are those of the publication's entry, where it is stored whole
 abbrev pub IsDigestIn : List Packet → ContentsDigest → Type 0
 IsDigestIn packets d = IfSome (whole_at packets (d.publisher, d.seq)) (IsDigestOfEntry d)

@@ -1,4 +1,4 @@
--- The plan and the packets of a member, which belong together, and packets that come.
+-- The plan and the packets of a member, which belong together, and packets that are received.
 use Rattle.std.specs.Prelude.{◌≡◌, ℕ, ◌+◌, ◌≤◌, true, false, List, Option, Some, None, option_map, is_some, IsOk, ◌==◌}
 use Rattle.std.specs.Prelude.{if◌then◌else◌}
 use Rattle.ndn_data.specs.Data.{data_of}
@@ -31,17 +31,17 @@ pub record PlanFits (plan : PlanState) (packets : List Packet) : Type 0 where
   pub indexed : (t : Part) (octets : List ℕ) → value_of part_cmp packets t ≡ Some octets
       → ListsAsMany octets (lists_at packets t)
 
--- with one more entry, if there is one
+-- the entries with one more, if there is one
 abbrev pub with_listed : Option Entry → List Entry → List Entry
 with_listed None entries = entries
 with_listed (Some e) entries = with_entry e entries
 
--- there is room to hold so many parts
+-- there is room to hold `n` parts
 pub record HaveRoomFor (n : ℕ) (plan : PlanState) (store : StoreList) : Type 0 where
   pub for_plan : n ≤ plan.spare
   pub for_store : n ≤ store.spare
 
--- the room for so many parts was used
+-- the room for `n` parts was used
 pub record HaveUsed (n : ℕ) (plan : PlanState) (store : StoreList) (plan_now : PlanState) (store_now : StoreList)
     : Type 0 where
   pub of_plan : plan_now.spare + n ≡ plan.spare
@@ -52,9 +52,9 @@ pub record IsMissing (plan : PlanState) (t : Part) : Type 0 where
   pub free : CanBeHeld plan t
   pub not_held : holds plan t ≡ false
 
--- ---- packets that come
+-- ---- packets that are received
 
--- what a record says of its publication that says this
+-- the summary of what a record says
 abbrev pub summary_of : RecordSays → RecordSummary
 summary_of (Lists l) = Object (listed_shape l) l.name
 summary_of (WithdrawsNumber seq) = Withdrawal seq
@@ -64,11 +64,11 @@ abbrev pub summary_shape : RecordSummary → Shape
 summary_shape (Object shape name) = shape
 summary_shape (Withdrawal seq) = shape_of_segments 0
 
--- what the packet of a part says: nothing, unless the part is a record
+-- the summary of what the packet of a part says; `None` where the part is no record
 abbrev pub summary_in : Part → List ℕ → Option RecordSummary
 summary_in t octets = if t.part == 0 then option_map summary_of (stated_in octets) else None
 
--- which parts its publication has then
+-- the part counts in the summary of a part's packet, if it has one
 abbrev pub shape_in_summary : Part → List ℕ → Option Shape
 shape_in_summary t octets = option_map summary_shape (summary_in t octets)
 
@@ -78,7 +78,7 @@ pub record IsPacketOf (packets : List Packet) (t : Part) (octets : List ℕ) (kn
   pub summary : known ≡ shape_in_summary t octets
   pub lists : ListsAsMany octets (lists_at packets t)
 
--- a packet that came for a part, with what it says of its publication
+-- a packet that was received for a part, with the summary in it, which a record has and no other part
 pub record IsArrival (packets : List Packet) (t : Part) (octets : List ℕ) (summary : Option RecordSummary) : Type
     0 where
   pub reads : IsOk (data_of octets)
@@ -86,7 +86,7 @@ pub record IsArrival (packets : List Packet) (t : Part) (octets : List ℕ) (sum
   pub tells : summary ≡ summary_in t octets
   pub lists : ListsAsMany octets (lists_at packets t)
 
--- a plan in which nothing changed but what is held
+-- what a plan knows, its claims, its hidden publications and its attempts are unchanged
 pub record KeepsOthers (old new : PlanState) : Type 0 where
   pub known : new.known ≡ old.known
   pub claims : new.claims ≡ old.claims

@@ -1,10 +1,10 @@
--- How what is held is kept.
+-- The value of `Holdings`, from its fields, and the invariant of these.
 use Rattle.std.specs.Prelude.{◌≡◌, []}
 use Rattle.repo_holdings.specs.declared.holdings.Holdings.TheInside.{Inside}
 use Rattle.repo_holdings.specs.Stock.{MatchesEntries, HaveRoom}
 use Rattle.repo_holdings.specs.HoldingsState.{HoldingsState}
 
--- what the fields say
+-- the value that the fields give
 abbrev pub state : Inside → HoldingsState
 state m = record {
   known = m.stock.plan.known;
@@ -15,8 +15,8 @@ state m = record {
   spare = m.spare;
 }
 
--- plan, notes and catalogue are those of what is stored, no entry waits to be listed or to be removed, and there is the
--- room that is spare
+-- plan, notes and catalogue agree with the stored packets, no entry waits to be listed or to be removed, and there is
+-- room for `m.spare` parts
 pub record IsHoldings (m : Inside) : Type 0 where
   pub kept : MatchesEntries m.stock m.catalogue.entries
   pub room : HaveRoom m.spare m.stock m.pending m.catalogue

@@ -1,4 +1,4 @@
--- What is held of publications, as contracts see it.
+-- The value of `Holdings`, as contracts see it.
 use Rattle.std.specs.Prelude.{ℕ, ◌-◌, max, List, [], Option, replicate, slice_index, slice_set}
 use Rattle.repo_plan.specs.declared.part.Part.{Part}
 use Rattle.repo_plan.specs.Parts.{Pair, part_cmp}
@@ -16,7 +16,7 @@ pub record HoldingsState : Type 0 where
   pub attempts : List (Part × ℕ)  -- in order, without 0
   pub spare : ℕ  -- for how many more parts there is capacity
 
--- nothing is known of so many publishers
+-- empty holdings for `publishers` publishers
 abbrev pub nothing_held : ℕ → HoldingsState
 nothing_held publishers = record {
   known = replicate publishers 0;
@@ -45,11 +45,11 @@ AreInOrder h = Rises part_cmp (keys h.store)
 
 -- ---- changes
 
--- a publisher's last number becomes the greater of both
+-- the last number that is known of `publisher` becomes `seq`, unless it is greater already
 abbrev pub with_known_up_to : ℕ → ℕ → HoldingsState → HoldingsState
 with_known_up_to publisher seq h =
     record h { known = slice_set h.known publisher (max (slice_index h.known publisher) seq) }
 
--- a fetcher claims a part, or nothing
+-- the claim of the fetcher `f` becomes `claim`: a part, or nothing
 abbrev pub claims_too : ℕ → Option Part → HoldingsState → HoldingsState
 claims_too f claim h = record h { claims = slice_set h.claims (f - 1) claim }

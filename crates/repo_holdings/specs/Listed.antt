@@ -1,4 +1,4 @@
--- Which publications stored packets are: what their records say, which objects are stored whole, and which of those
+-- What stored packets say of publications: what their records say, which objects are stored whole, and which of those
 -- are not withdrawn.
 use Rattle.std.specs.Prelude.{ℕ, ◌+◌, [], Bool, false, List, map, length, Option, Some, None}
 use Rattle.std.specs.Prelude.{option_map, is_some, unwrap_or, if◌then◌else◌}
@@ -38,7 +38,7 @@ withdrawn_by pair (WithdrawsNumber seq) = Some (pair.0, seq)
 abbrev pub listed_shape : Listed → Shape
 listed_shape l = shape_of_segments l.segments
 
--- the object that the record lists that a packet is
+-- the object that a packet lists, if it is the record of one
 abbrev pub listing_in : List ℕ → Option Listed
 listing_in octets = option_and_then object_stated (stated_in octets)
 
@@ -46,7 +46,7 @@ listing_in octets = option_and_then object_stated (stated_in octets)
 abbrev pub stated_at : List Packet → Pair → Option RecordSays
 stated_at packets pair = option_and_then stated_in (stored_at packets pair 0)
 
--- the object that it lists
+-- the object that the stored record of a publication lists
 abbrev pub listing_at : List Packet → Pair → Option Listed
 listing_at packets pair = option_and_then listing_in (stored_at packets pair 0)
 
@@ -56,7 +56,7 @@ shapes_in packets = kept_values (λ pair octets. option_map shape_stated (stated
 
 -- ---- withdrawals
 
--- whether it is this publication, if it is one
+-- whether there is a publication, and it is `pair`
 abbrev pub is_that : Pair → Option Pair → Bool
 is_that pair None = false
 is_that pair (Some q) = eq_by_cmp pair_cmp pair q
@@ -79,7 +79,7 @@ is_withdrawal packets pair = is_some (option_and_then (withdrawn_by pair) (state
 abbrev pub stored_content : List Packet → Pair → ℕ → List ℕ
 stored_content packets pair x = packet_content (unwrap_or (stored_at packets pair x) [])
 
--- the contents of its first so many parts from part `x` on, one after another
+-- the contents of `n` parts of a publication from part `x` on, one after another
 abbrev pub contents_from : List Packet → Pair → ℕ → ℕ → List ℕ
 contents_from packets pair x n = flat_map (stored_content packets pair) (numbers_from x n)
 
@@ -89,11 +89,11 @@ contents_joined packets pair shape = contents_from packets pair (shape.index + 1
 
 -- ---- objects that are stored whole
 
--- whether the first so many parts after the record of a publication are stored
+-- whether the first `n` parts after the record of a publication are stored
 abbrev pub are_stored : List Packet → Pair → ℕ → Bool
 are_stored packets pair n = list_all (λ x. is_some (stored_at packets pair x)) (numbers_from 1 n)
 
--- the entry of a publication whose record lists this
+-- the entry of a publication whose record lists `l`
 abbrev pub entry_of_listing : List Packet → Pair → Listed → Entry
 entry_of_listing packets pair l = record {
   publisher = pair.0;
@@ -104,7 +104,7 @@ entry_of_listing packets pair l = record {
   digest = sha256 (contents_joined packets pair (listed_shape l));
 }
 
--- the same, where every part after the record is stored
+-- the entry of a publication whose record lists `l`, if every part after the record is stored
 abbrev pub entry_listed : List Packet → Pair → Listed → Option Entry
 entry_listed packets pair l =
     if are_stored packets pair (last_part (listed_shape l)) then Some (entry_of_listing packets pair l) else None
@@ -119,7 +119,7 @@ whole_at packets pair = option_and_then (entry_listed packets pair) (listing_at 
 abbrev pub entry_at : List Packet → Pair → Option Entry
 entry_at packets pair = if is_withdrawn packets pair then None else whole_at packets pair
 
--- the same by publication
+-- by publication, the entry of each object that is stored whole and not withdrawn
 abbrev pub entries_in : List Packet → List (Pair × Entry)
 entries_in packets =
     kept_values
@@ -127,6 +127,6 @@ entries_in packets =
     else option_and_then (entry_listed packets pair) (listing_in octets))
     (records_in packets)
 
--- the catalogue of who has these packets: an entry for each such object, in order
+-- the catalogue of these packets: the entry of each object that is stored whole and not withdrawn, in order
 abbrev pub member_catalogue : List Packet → List Entry
 member_catalogue packets = map (λ e. e.1) (entries_in packets)

@@ -1,4 +1,4 @@
--- What stored records said, as it is kept beside them.
+-- Notes of what stored records say: the names of objects, and which publications are withdrawn.
 use Rattle.std.specs.Prelude.{◌≡◌, ℕ, ◌≤◌, List, Some, None}
 use Rattle.std.specs.HashMap.{spare}
 use Rattle.ndn_name.specs.Names.{Component}
@@ -15,7 +15,7 @@ pub record NotesState : Type 0 where
   pub withdrawn : List Pair  -- in order
   pub spare : ℕ
 
--- what the fields say
+-- the value that the fields give
 abbrev pub noted : Inside → NotesState
 noted n = record {
   names = in_order pair_cmp n.names.entries;
@@ -23,13 +23,13 @@ noted n = record {
   spare = n.spare;
 }
 
--- there is the capacity that is spare
+-- there is capacity for `n.spare` more names and for as many withdrawn publications
 pub record AreRoomy (n : Inside) : Type 0 where
   pub names : n.spare ≤ spare n.names
   pub withdrawn : n.spare ≤ n.withdrawn.spare
 
--- they agree with what is stored: the publications are those that stored records withdraw, and each object that is
--- stored in part has its name there
+-- the notes agree with the stored packets: they have the publications that stored records withdraw, and the name of
+-- each object whose record is stored and that is not stored whole
 pub record AreNotes (notes : NotesState) (packets : List Packet) : Type 0 where
   pub withdrawn : (pair : Pair) → contains pair_cmp notes.withdrawn pair ≡ is_withdrawn packets pair
   pub names : (pair : Pair) (l : Listed) → listing_at packets pair ≡ Some l → whole_at packets pair ≡ None

@@ -11,12 +11,12 @@ use Rattle.repo_holdings.specs.Listed.{member_catalogue}
 use Rattle.repo_holdings.specs.Noted.{AreNotes}
 use Rattle.repo_holdings.specs.Gaining.{PlanFits, shape_in_summary}
 
--- the plan and the notes are those of what is stored
+-- the plan and the notes agree with the stored packets
 pub record IsSound (s : Stock) : Type 0 where
   pub tied : PlanFits s.plan s.store.packets
   pub noted : AreNotes s.notes s.store.packets
 
--- they are, and the entries are those of the objects that are stored wholly and not withdrawn
+-- the stock is sound, and the entries are those of the objects that are stored whole and not withdrawn
 pub record MatchesEntries (s : Stock) (entries : List Entry) : Type 0 where
   pub sound : IsSound s
   pub listed : entries ≡ member_catalogue s.store.packets
@@ -28,14 +28,14 @@ pub record OnlyRoomChanges (old new : Stock) : Type 0 where
   pub names : new.notes.names ≡ old.notes.names
   pub withdrawn : new.notes.withdrawn ≡ old.notes.withdrawn
 
--- there is room for so many changes of the plan, for so many packets, and for what as many records say
+-- there is room for `changes` changes of the plan, for `packets` packets, and for notes of `packets` records
 pub record HasRoom (changes packets : ℕ) (s : Stock) : Type 0 where
   pub for_plan : changes ≤ s.plan.spare
   pub for_store : packets ≤ s.store.spare
   pub for_notes : packets ≤ s.notes.spare
 
--- there is room for so many parts, each of which may be held and tried, for what as many records say, for as many
--- entries, and for as many changes that wait
+-- there is room for `n` parts, each of which may be held and tried, for notes of `n` records, for `n` entries, and for
+-- `n` changes that wait
 pub record HaveRoom (n : ℕ) (s : Stock) (p : Pending) (catalogue : EntryList) : Type 0 where
   pub for_plan : n + n ≤ s.plan.spare
   pub for_store : n ≤ s.store.spare

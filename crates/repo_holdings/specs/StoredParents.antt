@@ -12,7 +12,7 @@ use Rattle.repo_holdings.specs.Records.{Packet}
 use Rattle.repo_holdings.specs.Listed.{stored_at, listing_at, listed_shape}
 use Rattle.repo_holdings.specs.declared.holdings.stored_parent.StoredParent.{StoredParent}
 
--- how many digests the packet of part `x` lists, if that is an index packet of an object that is listed so
+-- how many digests the packet of part `x` lists, if that is an index packet of the object `l`
 abbrev pub index_count : ℕ → Listed → Option ℕ
 index_count x l =
     if x == 0 then None
@@ -23,11 +23,11 @@ index_count x l =
 abbrev pub lists_at : List Packet → Part → Option ℕ
 lists_at packets t = option_and_then (index_count t.part) (listing_at packets (pair_of t))
 
--- a packet lists so many, where that is known
+-- the packet lists `count` digests, where `count` is a number
 abbrev pub ListsAsMany : List ℕ → Option ℕ → Type 0
 ListsAsMany octets count = IfSome count (λ n. IsSome (index_in octets n))
 
--- what index packet `x` lists of a publication of so many segments, as it is stored
+-- the digests that the index packet `x` of a publication of `segments` segments lists, if that is stored
 abbrev pub index_at : List Packet → Pair → ℕ → ℕ → Option (List (List ℕ))
 index_at packets pair segments x =
     option_and_then (λ octets. index_in octets (listed_in segments (x - 1))) (stored_at packets pair x)
@@ -50,7 +50,7 @@ digest_at packets t l =
     (place_listed (listed_shape l) t.part))
     []
 
--- a part is not the record, and what lists it is stored: the record, and the index packet where it stands in one
+-- the part `t` is not the record, and what lists `t` is stored: the record, and the index packet if one lists `t`
 pub record HasParent (packets : List Packet) (t : Part) : Type 0 where
   pub following : 0 < t.part
   pub listing : Listed
@@ -61,7 +61,8 @@ pub record HasParent (packets : List Packet) (t : Part) : Type 0 where
 
 -- ---- as they were read
 
--- a part is stored that lists others, and this is what its record says, and it itself, if it is an index packet
+-- `r` is a stored part that lists others: it has what the record of its publication says, and what the part itself
+-- lists, if it is an index packet
 pub record IsStoredParent (packets : List Packet) (r : StoredParent) : Type 0 where
   pub listed : listing_at packets (pair_of r.part) ≡ Some r.listing
   pub shape : r.shape ≡ listed_shape r.listing
@@ -69,7 +70,7 @@ pub record IsStoredParent (packets : List Packet) (r : StoredParent) : Type 0 wh
       ≡ (if r.part.part == 0 then None else index_at packets (pair_of r.part) r.listing.segments r.part.part)
   pub read : 0 < r.part.part → IsSome r.index
 
--- it lists this part
+-- the stored part `r` lists the part `t`
 pub record IsListedBy (packets : List Packet) (t : Part) (r : StoredParent) : Type 0 where
   pub following : 0 < t.part
   pub counted : t.part ≤ last_part r.shape

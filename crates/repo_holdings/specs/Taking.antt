@@ -31,12 +31,12 @@ pub record Fetched : Type 0 where
   pub packet : Option (List ℕ)
   pub attempts : ℕ
 
--- What is stored, and the packet of a part, where one came.
+-- the packets `stored`, and the packet of the part `t`, if one was received
 abbrev pub with_fetched : Part → Option (List ℕ) → List Packet → List Packet
 with_fetched t None stored = stored
 with_fetched t (Some octets) stored = with_packet t octets stored
 
--- attempts with so many more for a part
+-- the attempts, with `n` more for the part `t`
 abbrev pub with_tries : Part → ℕ → List (Part × ℕ) → List (Part × ℕ)
 with_tries t n attempts =
     if n == 0 then attempts
@@ -51,7 +51,7 @@ PartsDiffer (t ∷ ts) = (contains part_cmp ts t ≡ false) × PartsDiffer ts
 abbrev pub came : Tried → Fetched
 came x = record { part = x.part; packet = option_map (λ a. a.packet) x.arrival; attempts = x.attempts }
 
--- how many octets came for it, if a packet came
+-- how many octets were received for a tried part: those of its packet, if there is one
 abbrev pub arrival_octets : Tried → ℕ
 arrival_octets x = length (unwrap_or (came x).packet [])
 
@@ -65,32 +65,32 @@ pub record CanBeTaken (plan : PlanState) (packets : List Packet) (x : Tried) : T
   pub arrived : IfSome x.arrival (λ a. IsArrival packets x.part a.packet a.summary)
   pub few : attempts_of plan x.part + x.attempts < 2097152
 
--- the same of each of different parts
+-- the results of tried parts can be taken, and the parts are different
 pub record AreTakable (plan : PlanState) (packets : List Packet) (xs : List Tried) : Type 0 where
   pub each : All (CanBeTaken plan packets) xs
   pub apart : PartsDiffer (map (λ (x : Tried). x.part) xs)
 
--- stored packets with all that came
+-- the packets `stored`, and all that were received
 abbrev pub with_all_fetched : List Fetched → List Packet → List Packet
 with_all_fetched [] stored = stored
 with_all_fetched (x ∷ xs) stored = with_all_fetched xs (with_fetched x.part x.packet stored)
 
--- the parts of jobs, with the checked packets that came for them
+-- the parts of jobs, with the checked packets that were received for them
 abbrev pub fetched_for : List Job → List (Option CheckedPart) → List Fetched
 fetched_for (job ∷ jobs) (part ∷ parts) =
     record { part = job.want.part; packet = option_map (λ c. c.octets) part; attempts = 0 } ∷ fetched_for jobs parts
 fetched_for _ _ = []
 
--- stored packets with all that came for jobs
+-- the packets `stored`, and all that were received for jobs
 abbrev pub with_fetched_for : List Job → List (Option CheckedPart) → List Packet → List Packet
 with_fetched_for jobs parts stored = with_all_fetched (fetched_for jobs parts) stored
 
--- attempts with all that were made
+-- the attempts, with those of all results
 abbrev pub with_all_tries : List Fetched → List (Part × ℕ) → List (Part × ℕ)
 with_all_tries [] attempts = attempts
 with_all_tries (x ∷ xs) attempts = with_all_tries xs (with_tries x.part x.attempts attempts)
 
--- all of it is taken, where there is capacity for it
+-- the results `xs` are taken, within the capacity: packets are stored, and attempts are counted
 abbrev pub after_outcome : List Fetched → HoldingsState → HoldingsState
 after_outcome xs h = record h {
   store = with_all_fetched xs h.store;
@@ -98,7 +98,7 @@ after_outcome xs h = record h {
   spare = h.spare - length xs;
 }
 
--- a plan in which nothing changed but what is held and how often parts were tried
+-- what a plan knows, its claims and its hidden publications are unchanged
 abbrev pub KeepsButTries : PlanState → PlanState → Type 0
 KeepsButTries old new = KeepsOthers old (record new { attempts = old.attempts })
 
@@ -108,8 +108,8 @@ KeepsButTries old new = KeepsOthers old (record new { attempts = old.attempts })
 abbrev pub AreApartPairs : List Pair → Type 0
 AreApartPairs pairs = (pair : Pair) → length (filter (eq_by_cmp pair_cmp pair) pairs) ≤ 1
 
--- entries that wait to be listed are, put among the others, and without those of publications that wait to be removed,
--- the entries of the objects that are stored whole and not withdrawn
+-- `entries` with the entries `fresh`, which wait to be listed, and without those of the publications `gone`, which wait
+-- to be removed, are the entries of the objects that are stored whole and not withdrawn
 pub record AreListedWith (fresh : List Entry) (gone : List Pair) (entries : List Entry) (packets : List Packet)
     : Type 0 where
   pub listed : without_all gone (with_entries fresh entries) ≡ member_catalogue packets
@@ -118,7 +118,7 @@ pub record AreListedWith (fresh : List Entry) (gone : List Pair) (entries : List
   pub apart_gone : AreApartPairs gone
   pub in_order : IsCatalogue entries
 
--- the change of the catalogue that goes with what is stored newly: it may be made at once, or wait
+-- `change` brings the catalogue of `packets` to that of `after`: it may be made at once, or wait
 pub record IsChange (change : Change) (packets after : List Packet) : Type 0 where
   pub listed : member_catalogue after ≡ changed change (member_catalogue packets)
   pub waits : (fresh entries : List Entry) (gone : List Pair) → AreListedWith fresh gone entries packets
@@ -126,20 +126,21 @@ pub record IsChange (change : Change) (packets after : List Packet) : Type 0 whe
 
 -- ---- one after another
 
--- what is stored is sound, and there is room for so many parts, each of which may be held and be tried, and for as many
--- changes that wait
+-- the stock is sound, and there is room for `n` parts, each of which may be held and tried, and for `n` changes that
+-- wait
 pub record AreReady (n : ℕ) (s : Stock) (p : Pending) : Type 0 where
   pub sound : IsSound s
   pub room : HasRoom (n + n) n s
   pub fresh_room : length p.fresh.items + n ≤ vec_capacity p.fresh
   pub gone_room : length p.gone.items + n ≤ vec_capacity p.gone
 
--- tried parts whose count fits a `u32`, and the octets that came for them a `u64`
+-- the number of tried parts fits a `u32`, and the number of octets received for them a `u64`
 pub record AreFew (xs : List Tried) : Type 0 where
   pub parts : length xs < 2 ^ 32
   pub octets : sum_by arrival_octets xs < 2 ^ 64
 
--- all that came of tried parts is stored and counted, and the room for so many was used
+-- the packets received for the tried parts `xs` are stored, their attempts are counted, and at most the room for them
+-- was used
 pub record HasTaken (xs : List Tried) (old new : Stock) : Type 0 where
   pub packets : new.store.packets ≡ with_all_fetched (map came xs) old.store.packets
   pub attempts : new.plan.attempts ≡ with_all_tries (map came xs) old.plan.attempts
@@ -148,8 +149,8 @@ pub record HasTaken (xs : List Tried) (old new : Stock) : Type 0 where
   pub store_room : old.store.spare ≤ new.store.spare + length xs
   pub notes_room : old.notes.spare ≤ new.notes.spare + length xs
 
--- at most so many changes more wait, which bring the catalogue to what is stored now if the others bring it to what was
--- stored before
+-- at most `n` more changes wait than before. If the changes in `old` bring a catalogue to `packets`, those in `new`
+-- bring it to `after`.
 pub record HaveWaited (n : ℕ) (old new : Pending) (packets after : List Packet) : Type 0 where
   pub few_fresh : length new.fresh.items ≤ length old.fresh.items + n
   pub few_gone : length new.gone.items ≤ length old.gone.items + n
@@ -158,7 +159,7 @@ pub record HaveWaited (n : ℕ) (old new : Pending) (packets after : List Packet
   pub listed : (entries : List Entry) → AreListedWith old.fresh.items old.gone.items entries packets
       → AreListedWith new.fresh.items new.gone.items entries after
 
--- so many parts came, of so many octets
+-- `r` has the number of tried parts whose packets were received, and the number of octets of these packets
 pub record AreCounted (xs : List Tried) (r : Taken) : Type 0 where
   pub parts : r.parts ≡ count_by (λ x. is_some x.arrival) xs
   pub octets : r.octets ≡ sum_by arrival_octets xs

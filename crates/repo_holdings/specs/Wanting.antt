@@ -21,8 +21,8 @@ use Rattle.repo_holdings.specs.HoldingsState.{HoldingsState, held_plan}
 abbrev pub nothing_listed : Listed
 nothing_listed = record { name = []; segments = 0; digests = [] }
 
--- the want of a part after a record that lists this, of a publication of that node: an index packet is asked for as
--- the record lists it, a segment as the record or its index packet does
+-- the want of a part after the record, of a publication of `node` whose record lists `l`: an index packet is asked for
+-- as the record lists it, a segment as the record or its index packet does
 abbrev pub want_after : List Component → List Component → List Packet → Part → Listed → WantedPart
 want_after node group stored t l =
     if nat_le t.part (listed_shape l).index then want_index t l node group
@@ -36,7 +36,7 @@ want_at publishers group stored t =
     else want_after (unwrap_or (slice_get publishers t.publisher) []) group stored t
     (unwrap_or (listing_at stored (pair_of t)) nothing_listed)
 
--- the job of a part: its attempts go on from those that were made
+-- the job of a part, with the number of attempts that were made before
 abbrev pub job_at : List (List Component) → List Component → HoldingsState → Part → Job
 job_at publishers group h t =
     record { want = want_at publishers group h.store t; base = attempts_of (held_plan h) t }

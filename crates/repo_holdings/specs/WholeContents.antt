@@ -8,15 +8,15 @@ use Rattle.repo_holdings.specs.Listed.{whole_at}
 use Rattle.repo_holdings.specs.Contents.{IsOver}
 use Rattle.repo_holdings.specs.declared.holdings.whole.Whole.{Whole}
 
--- octets that lie in several places, one after another
+-- the octets of several pieces, one after another
 abbrev pub joined : List (Bor (List ℕ)) → List ℕ
 joined pieces = flat_map (λ piece. piece.now) pieces
 
--- these are the contents of the publication, where it is stored whole
+-- the pieces `contents`, joined, are the contents of the publication, where it is stored whole
 abbrev pub AreContentsIn : List Packet → Pair → List (Bor (List ℕ)) → Type 0
 AreContentsIn packets pair contents = IfSome (whole_at packets pair) (IsOver (joined contents))
 
--- the same of a publication that is given with its contents, whose octets a `u64` counts
+-- the contents in `w`, joined, are those of its publication, where it is stored whole, and a `u64` counts their octets
 pub record IsWholeIn (packets : List Packet) (w : Whole) : Type 0 where
   pub contents : AreContentsIn packets (w.publisher, w.seq) w.contents.items
   pub few : length (joined w.contents.items) < 2 ^ 64

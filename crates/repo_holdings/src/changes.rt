@@ -1,4 +1,4 @@
-// How a catalogue changes by what is stored newly of one publication.
+// How a catalogue changes when parts of one publication are newly stored.
 ghost use Rattle.std.specs.Prelude.{◌≡◌, ◌+◌, ◌<◌, ◌≤◌, Some, IsSomeAnd, if◌then◌else◌};
 ghost use Rattle.std.specs.List.{All};
 ghost use Rattle.sorted_lists.specs.SortedList.{contains, value_of};
@@ -24,7 +24,7 @@ pub(crate) enum Change {
 }
 
 impl Change {
-    // An entry is listed, if there is one.
+    // The change that lists an entry; no change where there is none.
     fn listing(entry: Option<Entry>) -> Change
         ensures { result ≡ lists_entry entry }
     {
@@ -34,7 +34,8 @@ impl Change {
         }
     }
 
-    // What is withdrawn is removed, if it was not withdrawn before.
+    // The change that removes a withdrawn publication, if `fresh` says that it was not withdrawn before; else no
+    // change.
     fn removing(fresh: bool, publisher: u32, seq: u16) -> Change
         ensures { result ≡ (if fresh then Change.Removes publisher seq else Change.Nothing) }
     {
@@ -62,8 +63,8 @@ impl Change {
     }
 }
 
-// Notes what is newly said of a publication, for which there is capacity, and answers what changes in the catalogue.
-// Digests over contents that are given aren't made again.
+// Notes what the newly stored record of a publication says, if a record was stored, and gives the change of the
+// catalogue. There is capacity for the note. Digests that are given in `digests` aren't computed again.
 pub(crate) fn change_by_summary(
     plan: &Plan,
     store: &Store,
@@ -94,8 +95,8 @@ pub(crate) fn change_by_summary(
     Change::listing(entry)
 }
 
-// The entry of an object whose name is noted, where its record and every part after it are stored and it is not
-// withdrawn. The name of an object that is stored whole is noted no more.
+// The entry of an object whose name is noted, if its record and every part after it are stored and it is not withdrawn.
+// This removes the noted name of an object that is stored whole, withdrawn or not.
 fn take_entry_if_whole(
     plan: &Plan,
     store: &Store,

@@ -23,8 +23,8 @@ pub struct ContentsDigest {
     pub digest: [u8; 32],
 }
 
-// How many octets the contents of an object that is stored whole have together, and their digest: as they are given,
-// or else as they are found now. A digest is found among those that are given where these are in order.
+// How many octets the contents of an object that is stored whole have together, and their digest: as `digests` gives
+// them, or else computed now. What `digests` gives is found where `digests` is in order.
 pub(crate) fn given_or_made(
     store: &Store,
     publisher: u32,
@@ -66,7 +66,7 @@ fn contents_digest(store: &Store, publisher: u32, seq: u16, shape: Shape) -> (u6
     (octets, digest.finalize())
 }
 
-// The content of a packet that is stored as this part.
+// The content of the packet of a part, if one is stored.
 pub(crate) fn stored_content(store: &Store, part: Part) -> Option<&[u8]>
     ensures exact { option_map (λ content. content.now) result
         ≡ option_map packet_content (value_of part_cmp store.now.packets part) }
@@ -76,7 +76,7 @@ pub(crate) fn stored_content(store: &Store, part: Part) -> Option<&[u8]>
     Some(packet.content())
 }
 
-// The content of a packet that came.
+// The content of a packet that was received and checked.
 pub(crate) fn content_of<'a>(checked: &Checked<'a>) -> &'a [u8]
     ensures exact { result.now ≡ packet_content checked.now.octets }
     ensures short { length result.now ≤ 8800 }

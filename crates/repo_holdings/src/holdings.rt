@@ -36,18 +36,18 @@ pub use whole::Whole;
 /// What is held of publications: which parts are known, held, wanted, claimed and hidden, their packets, and the
 /// catalogue of the objects of which no part is missing and that are not withdrawn.
 ///
-/// A call that is refused has changed nothing, running out of memory included. Room is made first, by `reserve`; a call
-/// that uses it allocates nothing.
+/// A call that fails changes nothing, also where memory ran out. Room is made first, by `reserve`; a call that uses it
+/// allocates nothing.
 pub struct Holdings {
     stock: Stock,
     catalogue: Catalogue,
     // Empty, except while packets are taken.
     pending: Pending,
-    // There is capacity for so many more parts, each of which may be held and be tried, and for as many entries.
+    // For how many more parts there is capacity: to hold and to try each of them, and for as many entries.
     spare: usize,
 }
 
-// What is held is dropped by one call, which is proved once, and not field by field wherever one is left.
+// Holdings are dropped by one call, which is proved once, and not field by field wherever one goes out of scope.
 impl Drop for Holdings {
     fn drop(self) {
         let Holdings {
@@ -72,7 +72,7 @@ impl Model for Holdings {
 }
 
 impl Holdings {
-    /// Nothing is known of so many publishers.
+    /// Empty holdings for `publishers` publishers.
     pub fn new(alloc: Global, publishers: usize) -> Result<Holdings, AllocError>
         ensures { IfOk result (λ held. held ≡ nothing_held publishers) }
     {
@@ -91,7 +91,7 @@ impl Holdings {
         })
     }
 
-    /// Reserves capacity for so many parts, each of which may be held and be tried, and for as many catalogue entries.
+    /// Reserves capacity for `n` parts, each of which may be held and tried, and for `n` catalogue entries.
     pub fn reserve(&mut self, n: usize) -> Result<(), AllocError>
         ensures ok { OnOk result (self.new ≡ record self.old { spare = max self.old.spare n }) }
         ensures err { OnErr result (self.new ≡ self.old) }
@@ -101,7 +101,7 @@ impl Holdings {
         Ok(())
     }
 
-    /// The publisher's publications up to number `seq` are known, besides those that are known already.
+    /// Makes the publisher's publications known up to number `seq`. Those that are known already stay known.
     pub fn raise(&mut self, publisher: u32, seq: u16)
         requires { publisher < length self.old.known }
         ensures { self.new ≡ with_known_up_to publisher seq self.old }
@@ -109,7 +109,7 @@ impl Holdings {
         self.stock.plan.raise(publisher, seq);
     }
 
-    /// What holds of the plan of all holdings. Costs nothing, and is called for its clause.
+    /// The plan of any holdings is sound. Costs nothing, and is called for its clause.
     pub fn cite_soundness(&self)
         ensures { PlanIsSound (held_plan self.now) }
     {
@@ -137,15 +137,15 @@ impl Holdings {
         self.stock.store.packet(part)
     }
 
-    /// Puts what waits in order of the packets' names, so that it is found faster. Nothing that is held changes. It
-    /// allocates nothing.
+    /// Puts the packets that were added since the last call in order of their names, so that they are found faster.
+    /// Nothing that is held changes. It allocates nothing.
     pub fn order_names(&mut self)
         ensures { self.new ≡ self.old }
     {
         self.stock.store.order_names();
     }
 
-    /// What an Interest is answered by: the packet of the least part that satisfies it. It allocates nothing.
+    /// The packet that answers an Interest: that of the least part that satisfies it. It allocates nothing.
     pub fn serve(&self, interest: &[u8]) -> Result<Option<&[u8]>, PacketFault>
         ensures { MatchResult result
             (λ found. served interest.now self.now.store ≡ Ok (option_map (λ octets. octets.now) found))
@@ -162,7 +162,7 @@ impl Holdings {
     }
 }
 
-// Reserves capacity for so many parts, records and entries.
+// Reserves capacity for `n` parts, records and entries.
 fn make_room(
     stock: &mut Stock,
     pending: &mut Pending,

@@ -1,4 +1,4 @@
-// What stored records said, as it is looked up later.
+// Notes of what stored records say, to be looked up later.
 ghost use Rattle.std.specs.Prelude.{◌≡◌, ◌-◌, ◌<◌, ◌≤◌, [], not, OnOk};
 ghost use Rattle.std.specs.List.{filter};
 ghost use Rattle.std.specs.Ordering.{eq_by_cmp};
@@ -16,7 +16,7 @@ use std::marker::Model;
 pub(crate) struct Notes {
     names: HashMap<(u32, u16), Name>,
     withdrawn: SortedMap<(u32, u16), ()>,
-    // There is capacity for so many more of each.
+    // For how many more of each there is capacity.
     spare: usize,
 }
 
@@ -33,7 +33,7 @@ impl Model for Notes {
 }
 
 impl Notes {
-    // Nothing is noted.
+    // Empty notes.
     pub(crate) fn new(alloc: Global) -> Notes
         ensures { result ≡ record { names = []; withdrawn = []; spare = 0 } }
     {
@@ -44,7 +44,7 @@ impl Notes {
         }
     }
 
-    // Reserves capacity for so many names and withdrawn publications, unless there is as much already.
+    // Reserves capacity for `n` names and `n` withdrawn publications, unless there is as much already.
     pub(crate) fn reserve(&mut self, n: usize) -> Result<(), AllocError>
         ensures names { self.new.names ≡ self.old.names }
         ensures withdrawn { self.new.withdrawn ≡ self.old.withdrawn }
@@ -57,7 +57,7 @@ impl Notes {
         Ok(())
     }
 
-    // The object of a publication has this name. It uses up capacity for one.
+    // Notes the name of the object of a publication. It uses up capacity for one.
     pub(crate) fn note_name(&mut self, publication: (u32, u16), name: Name)
         requires { 0 < self.old.spare }
         ensures names { self.new.names ≡ with_value pair_cmp publication name self.old.names }
@@ -68,7 +68,7 @@ impl Notes {
         table::set_value(&mut self.names, publication, name);
     }
 
-    // The name of the object of a publication, which is noted no more.
+    // Removes the noted name of the object of a publication, and gives it.
     pub(crate) fn take_name(&mut self, publication: (u32, u16)) -> Option<Name>
         ensures name { result ≡ value_of pair_cmp self.old.names publication }
         ensures left { self.new ≡ record self.old {
@@ -78,7 +78,8 @@ impl Notes {
         self.names.remove(&publication)
     }
 
-    // The publication is withdrawn. It uses up capacity for one. The answer is whether it was not withdrawn before.
+    // Notes that the publication is withdrawn. It uses up capacity for one. The answer is whether it was not noted
+    // before.
     pub(crate) fn note_withdrawn(&mut self, publication: (u32, u16)) -> bool
         requires { 0 < self.old.spare }
         ensures fresh { result ≡ not (contains pair_cmp self.old.withdrawn publication) }
@@ -92,7 +93,7 @@ impl Notes {
         fresh
     }
 
-    // Whether the publication is withdrawn.
+    // Whether the publication is noted as withdrawn.
     pub(crate) fn is_withdrawn(&self, publication: (u32, u16)) -> bool
         ensures { result ≡ contains pair_cmp self.now.withdrawn publication }
     {

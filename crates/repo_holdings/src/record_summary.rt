@@ -1,4 +1,4 @@
-// What records say of their publications, and packets that come.
+// What records say of their publications, and packets that were received.
 ghost use Rattle.std.specs.Prelude.{◌≡◌, Some, option_map, IsSome, IfOk, List};
 ghost use Rattle.repo_object.specs.Verdict.{stated_in};
 ghost use Rattle.repo_holdings.specs.Records.{Packet as Stored};
@@ -20,7 +20,7 @@ pub enum RecordSummary {
 }
 
 impl RecordSummary {
-    // What the record says that a packet is known to be.
+    // What a packet says that is known to be a record.
     fn of_record(alloc: Global, packet: &[u8]) -> Result<RecordSummary, AllocError>
         requires { IsSome (stated_in packet.now) }
         ensures { IfOk result (λ summary. option_map summary_of (stated_in packet.now) ≡ Some summary) }
@@ -53,7 +53,7 @@ pub struct Arrival {
 }
 
 impl Arrival {
-    /// The packet that came for a part and passed for it.
+    /// The packet that was received for a part and passed for it, with what it says, if it is a record.
     pub fn new(alloc: Global, part: Part, packet: Packet) -> Result<Arrival, AllocError>
         requires record_part { part.part ≡ 0 → IsSome (stated_in packet) }
         ensures packet { IfOk result (λ arrival. arrival.packet ≡ packet) }

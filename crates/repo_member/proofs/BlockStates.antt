@@ -1,4 +1,4 @@
--- A block that comes: what is reported of it, and how it is undone.
+-- A block that is received: what is reported of it, and how it is undone.
 use Rattle.std.proofs.Common.{◌≡◌, ℕ, ◌+◌, ◌-◌, Bool, true, false, cond, not, ◌&&◌, List, Option, Some, None, is_some}
 use Rattle.std.proofs.Common.{refl, sym, ap, ◌∙◌, subst}
 use Rattle.std.specs.Prelude.{IsSomeAnd, IsTrue}
@@ -63,7 +63,7 @@ changed_there : (i : Insertions) (number : ℕ) (change : Process → Process) (
     → changes_process number change i ≡ with_process number (change p) i
 changed_there i number change p there = ap (with_changed number change i) there
 
--- ---- what is told of a block
+-- ---- what is reported of a block
 
 unpublished_with : (index : ℕ) (content : List ℕ) (q : Process) → q.published ≡ false → (p : Process)
     → p ≡ with_block index content q → p.published ≡ false
@@ -95,7 +95,7 @@ module _ (before after : Insertions) (number index : ℕ) (content : List ℕ) (
         (waiting_with before number p (λ h. (comes_waiting before.processes number index content p c).has_all) waiting)
     go (Whole p) c a k = absurd cc
 
-  -- it was published before
+  -- where a process is complete and has no whole object, its object was published before
   pub nothing_lent : answer_of_block state ≡ Complete → whole_object (value_of nat_cmp after.processes number) ≡ None
       → (state ≡ Already) × (after ≡ before)
   nothing_lent h none = go state comes arrives h where
@@ -184,7 +184,7 @@ module _ (before after : Insertions) (number index : ℕ) (content : List ℕ) (
       ap (λ (q : Process). has_block q index) last.comes.is
       ∙ ap is_some (block_comes last.comes.before index content last.lacked)
 
-  -- it can be taken back
+  -- the block that completed an object can be taken back
   pub can_take_back :
       IsSomeAnd (value_of nat_cmp after.processes number) (λ q. (q.published ≡ false) × IsTrue (has_block q index))
   can_take_back =
@@ -194,7 +194,7 @@ module _ (before after : Insertions) (number index : ℕ) (content : List ℕ) (
   gone : without_block index p ≡ last.comes.before
   gone = ap (without_block index) last.comes.is ∙ block_gone last.comes.before index content last.lacked
 
-  -- and then all is as it was before
+  -- a block that is taken back leaves all as it was before
   pub taken_back : changes_process number (without_block index) after ≡ before
   taken_back =
       changed_there after number (without_block index) p last.there

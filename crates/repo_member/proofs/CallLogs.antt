@@ -52,7 +52,7 @@ takes_same f h (x ∷ xs) a =
 
 -- ---- publications behind others
 
--- the same member, with these publications after those that it made
+-- the same member, with the publications `more` after those that it made
 pub record HasMore (old new : MemberState) : Type 0 where
   pub number : new.number ≡ old.number
   pub more : List Post

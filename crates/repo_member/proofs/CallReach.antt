@@ -60,7 +60,7 @@ taken_by : (a : MemberState) (received taken : List ℕ) → CanBeReceived a rec
     → CanBeReceived a taken
 taken_by a received taken can verdict = subst (CanBeReceived a) (taken_vector a received taken verdict).0 can
 
--- what is reported is learnt
+-- a member takes a vector that it can receive
 learnt : (g : GroupKeys) (a : MemberState) (received : List ℕ) → CanBeReceived a received → IsReached g a
     → IsReached g (member_learns received a)
 learnt g a received can r = reached_learns g a received (can.width ∙ sym r.of) can.own r

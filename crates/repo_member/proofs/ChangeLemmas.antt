@@ -82,7 +82,7 @@ keys_as_parts pair x (octets ∷ made) = ap (λ (ts : List Part). part_of pair x
 
 -- ---- the changes
 
--- what the group has of a member, with these parts held
+-- what the group has of a member, with the parts `held` held
 abbrev holding : Member → List Part → Member
 holding m held = record m { held = held }
 
@@ -105,7 +105,7 @@ pub rises_fetched : (t : Part) (o : Option (List ℕ)) (stored : List Packet) �
 rises_fetched t None stored r = r
 rises_fetched t (Some octets) stored r = rises_put stored t octets r
 
--- the parts that came are held too, whether this one is among them or not
+-- the parts that were received are held too, whether the first is among them or not
 pub came_first : (x : Fetched) (ys : List Fetched) (o : Option (List ℕ)) (stored : List Packet)
     → Rises part_cmp (keys stored)
     → insert_keys (asked_for ys) (keys (with_fetched x.part o stored))

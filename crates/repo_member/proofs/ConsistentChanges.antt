@@ -1,4 +1,4 @@
--- Which changes leave a member one whose stored packets are those of their parts.
+-- Which changes leave a member consistent.
 use Rattle.std.proofs.Common.{◌≡◌, inl, inr, ℕ, zero, suc, ◌+◌, Bool, true, false, cond, not, List, [], ◌∷◌, ◌++◌}
 use Rattle.std.proofs.Common.{length, get_or, set, replicate, Option, Some, None, refl, sym, ap, ◌∙◌, subst, arith}
 use Rattle.std.specs.Prelude.{nat_lt, is_some, filter, IfSome}
@@ -152,7 +152,7 @@ others_publish g logs later a grows wide last t =
       packets = (grows_consistently g logs later a grows (consistent_stores g logs a t)).packets;
     }
 
--- ---- what is told
+-- ---- what is reported
 
 pub learns_consistent : LearnsConsistent
 learns_consistent g logs received a v t = record {
@@ -216,7 +216,7 @@ inserts_consistent g logs insertions a t = record {
   packets = t.packets;
 }
 
--- where a log stays as it is, so do all
+-- where a member's log stays as it is, all logs stay as they are
 same_logs : (g : GroupKeys) (logs : Logs) (a b : MemberState) → b.number ≡ a.number → b.log ≡ a.log
     → IsConsistentMember g logs a
     → IsConsistentMember g logs b → IsConsistentMember g (set logs a.number b.log) b
@@ -346,7 +346,7 @@ claims_consistent g logs f a are t = go (first (unclaimed (member_plan a))) refl
         packets = t.packets;
       }
 
--- ---- what comes
+-- ---- what is received
 
 pub accepts_consistent : AcceptsConsistent
 accepts_consistent g logs f t octets a are claim its consistent = record {
@@ -373,7 +373,7 @@ all_tried [] tried h = h
 all_tried (x ∷ xs) tried h =
     all_tried xs (with_tries x.part x.attempts tried) (tried_once_more x.part x.attempts tried h)
 
--- a part that came
+-- a part that was received
 response_from : (xs : List Fetched) (P : Part → Type 0) → All (λ (x : Fetched). IfSome x.packet (λ octets. P x.part)) xs
     → (t : Part) → In t (parts_fetched xs) → P t
 response_from [] P all t i = absurd i

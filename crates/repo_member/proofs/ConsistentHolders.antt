@@ -1,4 +1,4 @@
--- What a group's publications say of whoever holds parts in it, where the stored packets are those of their parts.
+-- What a group's publications say of a consistent holder of parts.
 use Rattle.std.proofs.Common.{◌≡◌, inl, inr, ℕ, ◌≤◌, Bool, true, false, cond, ◌==◌, List, [], ◌∷◌}
 use Rattle.std.proofs.Common.{length, get_or, Option, Some, None, refl, sym, ap, ◌∙◌, subst, arith}
 use Rattle.std.specs.Prelude.{nat_le, is_some, unwrap_or, IsOk}
@@ -44,7 +44,7 @@ use Rattle.repo_member.specs.ConsistentHolders.{HoldersStoreThose, HoldersWantPu
 use Rattle.repo_member.specs.ConsistentHolders.{PacketsPassForHolders}
 use Rattle.repo_member.proofs.PassingPackets.{want_of_post, packet_passes}
 
--- ---- who holds so
+-- ---- which holders are consistent
 
 pub member_is_holder : MembersAreHolders
 member_is_holder g logs a t = record {

@@ -1,4 +1,4 @@
--- What a group's publications say of a member whose stored packets are those of their parts.
+-- What a group's publications say of a consistent member.
 use Rattle.std.proofs.Common.{◌≡◌, ℕ, ◌-◌, true, List, [], length, get_or, Some, Result, Ok, Err, refl, sym, ap, ◌∙◌}
 use Rattle.std.proofs.Common.{subst, arith}
 use Rattle.std.specs.Prelude.{nat_le, slice_get, IsOk}

@@ -1,4 +1,4 @@
--- Packets that are those of what was published: what they say, and their contents.
+-- Packets that were published: what they say, and their contents.
 use Rattle.std.proofs.Common.{◌≡◌, inl, inr, ℕ, ◌+◌, ◌-◌, ◌^◌, ◌<◌, List, [], length, get_or, Option, Some}
 use Rattle.std.proofs.Common.{None, is_some, true, Result}
 use Rattle.std.proofs.Common.{Ok, Err, refl, sym, ap, ◌∙◌, subst, arith}

@@ -1,4 +1,4 @@
--- The sync Interests of a group's members are told from whom they are, and are taken.
+-- A sync Interest of a group's member is read with its sender and vector, and each member takes it.
 use Rattle.std.proofs.Common.{◌≡◌, ℕ, suc, zero, ◌+◌, ◌≤◌, ◌<◌, ◌^◌, Bool, true, false, cond, not, List, [], ◌∷◌, ◌++◌}
 use Rattle.std.proofs.Common.{length, get_or, Some, None, position, refl, sym, ap, ◌∙◌, subst, arith}
 use Rattle.std.specs.Prelude.{nat_lt, slice_get, slice_index, Ok, Err}

@@ -198,7 +198,7 @@ none_tried (x ∷ xs) tried all =
     ap (λ (n : ℕ). with_all_tries xs (with_tries x.part n tried)) (All-head (λ (y : Fetched). y.attempts ≡ 0) x xs all)
     ∙ none_tried xs tried (All-tail (λ (y : Fetched). y.attempts ≡ 0) x xs all)
 
--- parts that come in any order make one list in order
+-- parts that are gained in any order make one list in order
 same_gained : (ts us held : List Part) → Rises part_cmp held
     → ((t : Part) → contains part_cmp ts t ≡ contains part_cmp us t) → insert_keys ts held ≡ insert_keys us held
 same_gained ts us held r same =

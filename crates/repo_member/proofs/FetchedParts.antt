@@ -35,7 +35,7 @@ use Rattle.repo_member.proofs.ConsistentPackets.{is_there}
 
 -- ---- jobs whose outcome can be taken
 
--- what came for a job passes for its want
+-- what was received for a job passes for its want
 abbrev Passed : GroupKeys → Job → Option CheckedPart → Type 0
 Passed g job part = IfSome part (λ c. IsOk (ring_verdict job.want g.members.ring c.octets))
 
@@ -43,7 +43,7 @@ Passed g job part = IfSome part (λ c. IsOk (ring_verdict job.want g.members.rin
 abbrev IsOpen : GroupKeys → MemberState → Job → Type 0
 IsOpen g a job = (is_unclaimed (member_plan a) job.want.part ≡ true) × (job.want ≡ want_of g a.store job.want.part)
 
--- there are as many of each
+-- the jobs, the parts and the attempts are lists of the same length, and each job with its result is open
 abbrev AreOpen : GroupKeys → MemberState → List Job → List (Option CheckedPart) → List ℕ → Type 0
 AreOpen g a [] [] [] = Unit {0}
 AreOpen g a (job ∷ jobs) (part ∷ parts) (n ∷ ns) = (IsOpen g a job × Passed g job part) × AreOpen g a jobs parts ns

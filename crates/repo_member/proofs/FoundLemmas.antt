@@ -51,11 +51,11 @@ use Rattle.repo_holdings.proofs.AskedLemmas.{listing_sized}
 
 -- ---- what is catalogued is stored whole
 
--- how many parts a publication of so many segments has after its record
+-- how many parts a publication of `n` segments has after its record
 abbrev pub parts_counted : ℕ → ℕ
 parts_counted n = last_part (shape_of_segments n)
 
--- an object of so many segments whose record is stored, and every part after it
+-- an object of `n` segments whose record is stored, and every part after it
 pub record IsWhole (packets : List Packet) (pair : Pair) (n : ℕ) : Type 0 where
   pub listing : Listed
   pub says : stated_at packets pair ≡ Some (Lists listing)
@@ -316,7 +316,7 @@ each_earlier (p ∷ ps) (suc i) d q r l (inl same) =
     ∙ each_before exact_pairs.total p ps r.0 (get_or ps i d) (in_at ps i d (omega (arith, l)))
 each_earlier (p ∷ ps) (suc i) d q r l (inr j) = each_earlier ps i d q r.1 (omega (arith, l)) j
 
--- one publication more has so many packets
+-- one more publication to drop is one record and its other parts fewer
 pub one_more_dropped : (p : PlanState) (packets : List Packet) (pair : Pair) (n : ℕ) (pairs : List Pair) → PlanIsSound p
     → IsReadFrom packets p → IsWhole packets pair n
     → ((q : Pair) → In q pairs → eq_by_cmp pair_cmp q pair ≡ false)
@@ -330,7 +330,7 @@ one_more_dropped p packets pair n pairs s read whole others =
     ap length (outside_append pairs pair packets) in
     omega (arith, split, inside, more)
 
--- no packet comes by this
+-- hiding publications adds no packet
 pub outside_shorter : (pairs : List Pair) (packets : List Packet) → length (outside_all pairs packets) ≤ length packets
 outside_shorter [] packets = omega arith
 outside_shorter (pair ∷ pairs) packets =
@@ -340,7 +340,7 @@ outside_shorter (pair ∷ pairs) packets =
 
 -- ---- a publication among those of a name
 
--- what a loop over them learns of one
+-- what a loop over the publications of a name finds of one
 pub record IsNamedAt (p : PlanState) (packets : List Packet) (pairs : List Pair) (i : ℕ) (pair : Pair) (n : ℕ) : Type 0
   where
     pub held : holds p (part_of pair 0) ≡ true

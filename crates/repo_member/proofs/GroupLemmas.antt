@@ -172,7 +172,7 @@ not_taken group node free =
       none None h = refl
       none (Some n) h = absurd (true≢false h)
 
--- there are as many keys as names
+-- the number of keys is the number of names
 pub ring_length : (nodes : NodeKeys) → HaveKeys nodes → length nodes.ring ≡ length nodes.names
 ring_length nodes have =
     sym (length-map nodes.ring (λ (p : NamedKey). p.name)) ∙ ap (λ (names : List (List ℕ)). length names) have.keys

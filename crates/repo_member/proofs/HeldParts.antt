@@ -280,7 +280,7 @@ module _ (g : GroupKeys) (a : MemberState) (t : Part) (r : IsReached g a) (own :
       (sym missing ∙ r.own t own shown ∙ logged_own g a t post own (omega (arith, known.0)) there
       ∙ slice_get-get_or (packets by t.seq post) t.part [] within)
 
--- ---- a part that comes
+-- ---- a part that is received
 
 pub missing_value : (stored : List Packet) (t : Part) → contains part_cmp (keys stored) t ≡ false
     → value_of part_cmp stored t ≡ None
@@ -293,7 +293,7 @@ pub not_there : (stored : List Packet) (t : Part) → value_of part_cmp stored t
     → contains part_cmp (keys stored) t ≡ false
 not_there stored t h = contains-value stored t ∙ ap is_some h
 
--- stored packets stay where others come
+-- stored packets stay where others are added
 pub record StaysStored (old new : List Packet) : Type 0 where
   pub still : (t : Part) (octets : List ℕ) → value_of part_cmp old t ≡ Some octets
       → value_of part_cmp new t ≡ Some octets
@@ -340,7 +340,7 @@ pub want_same : (g : GroupKeys) (old new : List Packet) (t : Part)
 want_same g old new t h =
     ap (want_from g t) (fun_ext (stored_at new (pair_of t)) (stored_at old (pair_of t)) h)
 
--- so the want of a part that could be asked for stays the same
+-- the want of a part that could be asked for stays the same where stored packets stay
 pub want_stays : (g : GroupKeys) (a : MemberState) (new : List Packet) (t : Part) → PlanFits (member_plan a) a.store
     → StaysStored a.store new → may_be_asked_for (member_plan a) t ≡ true → want_of g new t ≡ want_of g a.store t
 want_stays g a new t tied stays asked = go (t.part == 0) refl where

@@ -1,4 +1,4 @@
--- Whoever holds parts takes packets that are those of wanted parts, and holds what it held, and them.
+-- A consistent holder that takes published packets of wanted parts holds what it held, and those.
 use Rattle.std.proofs.Common.{◌≡◌, ◌⊎◌, inl, inr, ℕ, Bool, true, false, cond, not, ◌&&◌, ◌||◌, List, [], ◌∷◌, map}
 use Rattle.std.proofs.Common.{Option, Some, None, is_some, refl, sym, ap, ◌∙◌, subst}
 use Rattle.std.specs.Prelude.{filter, IfSome}
@@ -47,7 +47,7 @@ module _ (t : Part) (octets : List ℕ) (stored : List Packet) where
       there true e = ap (is_stored stored) (eq_same exact_parts u t e) ∙ h
       there false e = refl
 
--- what came of one part
+-- the packet that was received for one part
 one_is : (t : Part) (o : Option (List ℕ)) (stored : List Packet) (u : Part)
     → is_stored (with_fetched t o stored) u ≡ ((is_some o && eq_by_cmp part_cmp u t) || is_stored stored u)
 one_is t None stored u = refl
@@ -107,7 +107,7 @@ from_there (y ∷ ys) stored u h = elim (from_there ys (with_fetched y.part y.pa
   | inr r ↦ inr (r.0, inr r.1, r.2, r.3)
 ]
 
--- the packets of a member that took all that came
+-- the packets of a member that took all that was received
 pub store_taken : (xs : List Fetched) (a : MemberState) → (member_takes xs a).store ≡ with_all_fetched xs a.store
 store_taken xs a = ap (λ (x : MemberState). x.store) (members_take_all xs a)
 
@@ -119,7 +119,7 @@ module _ (g : GroupKeys) (logs : Logs) (xs : List Fetched) (h : HoldingsState) (
   abbrev next : HoldingsState
   next = after_outcome xs h
 
-  -- a part whose packet came is wanted
+  -- a part whose packet was received is wanted
   wanted_if : (o : Option (List ℕ)) (t : Part) → IfSome o (ArrivesConsistently g logs h t) → is_some o ≡ true
       → is_wanted (held_plan h) t ≡ true
   wanted_if None t is some = absurd (true≢false (sym some))

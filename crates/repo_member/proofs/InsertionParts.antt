@@ -84,7 +84,7 @@ block_within index content p is within = go (has_block p index) where
     at i found true h = let same : content ≡ found = cc in subst IsContent same is
     at i found false h = within.contents i found h
 
--- ---- a block that comes
+-- ---- a block that is received
 
 -- a block of an unpublished process, which then has all of its blocks or not
 pub record Comes (processes : List (ℕ × Process)) (number index : ℕ) (content : List ℕ) (p : Process) (whole : Bool)

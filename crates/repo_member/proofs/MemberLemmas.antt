@@ -42,7 +42,7 @@ use Rattle.repo_member.proofs.GroupLemmas.{ring_length}
 pub plan_is : (m : Inside) → IsMember m → held_plan m.held ≡ member_plan (member_state m)
 plan_is m is = λ i. record (member_plan (member_state m)) { known = is.known i }
 
--- a reading of it is that of the member's value
+-- a reading of a member's plan is that of the plan of its value
 pub reading : {A : Type 0} (f : PlanState → A) (m : Inside) (a : MemberState) → IsMember m → member_state m ≡ a
     → f (held_plan m.held) ≡ f (member_plan a)
 reading f m a is view = ap f (plan_is m is) ∙ ap (λ (x : MemberState). f (member_plan x)) view
@@ -75,7 +75,7 @@ knows_more old new pair more h =
     and_from (nat_le 1 pair.1) (nat_le pair.1 (slice_index new.known pair.0)) both.0
     (le-leb pair.1 (slice_index new.known pair.0) (omega (arith, high, grown)))
 
--- a member that learns a vector, which reports no more publications of it than it made
+-- a member that takes a vector, which reports no more publications of it than it made
 pub learns_is : (m : Inside) (received vector : List ℕ) (held : HoldingsState) (machine : SyncState) → IsMember m
     → length received ≡ length m.vector → slice_index received m.number ≤ length (posts_of m.log.items)
     → vector ≡ join m.vector received → held ≡ record m.held { known = join m.vector received }

@@ -1,4 +1,4 @@
--- What came of a fetch, taken part after part.
+-- The results of a fetch, taken part after part.
 use Rattle.std.proofs.Common.{◌≡◌, ◌⊎◌, inl, inr, ℕ, ◌<◌, Bool, true, cond, not, List, [], ◌∷◌, ◌++◌, map, length}
 use Rattle.std.proofs.Common.{append_assoc, refl, sym, ap, ◌∙◌, subst, Option, Some, None, option_map, is_some}
 use Rattle.std.proofs.Common.{unwrap_or, count_by, sum_by, take, Result, Ok, Err, arith}
@@ -115,7 +115,7 @@ comes_so c t octets (Ok a) part same passed comes = λ packets lists.
     (subst (ListsAsMany octets) (lists ∙ ap (lists_at packets) (sym part))
     (subst (λ (o : List ℕ). ListsAsMany o c.want.lists) (sym same) (checked_lists c passed))))
 
--- what was checked for a want of the member comes as its part
+-- a packet that was checked for the member's want of part `t` is an arrival of `t`
 pub arrives : (g : GroupKeys) (a : MemberState) (t : Part) (c : CheckedPart) (octets : List ℕ)
     (received : Option RecordSummary)
     → c.want ≡ want_of g a.store t
@@ -136,7 +136,7 @@ lists_for g a t c passed same =
     subst (ListsAsMany c.octets) (ap (λ (w : WantedPart). w.lists) same ∙ want_lists g a.store t)
     (checked_lists c passed)
 
--- ---- what came of jobs, one after another
+-- ---- the results of jobs, one after another
 
 pub nothing_left : (jobs : List Job) (parts : List (Option CheckedPart)) (attempts : List ℕ)
     → (length jobs ≡ 0) ⊎ (length parts ≡ 0) ⊎ (length attempts ≡ 0) → outcome_of jobs parts attempts ≡ []
@@ -244,7 +244,7 @@ module _ (g : GroupKeys) (a : MemberState) where
       ap (λ (os : List (Option (List ℕ))). option_map (λ (c : CheckedPart). c.octets) part ∷ os)
       (packets_fetched jobs parts ns are.1)
 
-  -- what is stored with it goes by the parts and their packets alone
+  -- the packets that are stored with an outcome follow from the parts and their packets alone
   pub stored_alike : (jobs : List Job) (parts : List (Option CheckedPart)) (ns : List ℕ) (stored : List Packet)
       → AreFetched g a jobs parts ns
       → with_fetched_for jobs parts stored ≡ with_all_fetched (outcome_of jobs parts ns) stored
@@ -264,7 +264,7 @@ module _ (g : GroupKeys) (a : MemberState) where
         subst PartsDiffer
         (sym (parts_came xs ∙ ap (map (λ (y : Fetched). y.part)) all ∙ parts_fetched jobs parts ns is.each)) is.apart
 
-    -- a sum over what came of each
+    -- a sum over the result of each job
     came_sum : (q : Option (List ℕ) → ℕ)
         → sum_by (λ (x : Tried). q (came x).packet) xs
         ≡ sum_by (λ (part : Option CheckedPart). q (option_map (λ (c : CheckedPart). c.octets) part)) parts
@@ -326,7 +326,7 @@ module _ (m : Inside) (a : MemberState) (view : member_state m ≡ a) (mid : Hol
       }) (taken ∙ ap (after_outcome xs) room)
       ∙ sym (members_take_all xs (member_state m)) ∙ ap (member_takes xs) view
 
--- ---- what is planned can be taken, whatever came of it
+-- ---- planned jobs can be taken, whatever their results
 
 pub apart_in_order : (ts : List Part) → Rises part_cmp ts → PartsDiffer ts
 apart_in_order [] rises = tt

@@ -41,7 +41,7 @@ use Rattle.repo_member.specs.Posts.{posts_of, IsKeptLog}
 use Rattle.repo_member.specs.Members.{member_state, AreWaiting, IsMember}
 use Rattle.repo_member.proofs.MemberLemmas.{knows_more}
 
--- ---- who publishes
+-- ---- the publisher
 
 pub is_publisher : (g : GroupKeys) (number : ℕ) → IsGroup g → number < length g.members.names
     → IsPublisher (publisher_at g number)
@@ -53,7 +53,7 @@ is_publisher g number is inside =
 
 -- ---- its packets
 
--- packets from part `x` on list as many as they have to, where each does
+-- each packet from part `x` on lists its part's number of digests
 in_turn : (l : Option Listed) (x : ℕ) (made : List (List ℕ))
     → ((i : ℕ) (octets : List ℕ) → slice_get made i ≡ Some octets
     → ListsAsMany octets (option_and_then (index_count (x + i)) l))
@@ -196,7 +196,7 @@ next_to_last p number last sound inside own hidden = record {
   past : seq ≤ slice_index p.known number → ⊥
   past h = omega (arith, own, h)
 
--- such is a member's next publication
+-- a member's next publication is new in its plan
 pub next_is_new : (m : Inside) (held : HoldingsState) (n log : ℕ) → IsMember m → PlanIsSound (held_plan m.held)
     → log ≡ length (posts_of m.log.items) → held ≡ with_known_up_to m.number (log + 1) (record m.held { spare = n })
     → IsNew (held_plan held) (m.number, log + 1)

@@ -70,7 +70,7 @@ sound_known p known few more s = record {
   apart = s.apart;
 }
 
--- ---- a part that comes
+-- ---- a part that is received
 
 -- the member stores this packet too
 abbrev pub gains : Part → List ℕ → MemberState → MemberState

@@ -16,7 +16,8 @@ use Rattle.repo_member.specs.Verdicts.{sync_of}
 
 -- ---- what every insertion process keeps
 
--- it is of an object's name and of at most 200 blocks, and what has come of them are contents
+-- the process is for an object's name and for at most 200 blocks, and each block that it has is a content within the
+-- limits
 pub record IsWithinLimits (p : Process) : Type 0 where
   pub name : IsName p.name
   pub named : IsTrue (is_object_name p.name)
@@ -37,25 +38,25 @@ member_block a process index content = block_state a.insertions.processes proces
 abbrev pub member_keeps : ℕ → Process → MemberState → MemberState
 member_keeps number p a = record a { insertions = with_process number p a.insertions }
 
--- A block that completes an object publishes it. Where numbers are spent it isn't taken.
+-- A block that completes an object publishes it. Where the member has no number left, the block isn't taken.
 abbrev pub member_publishes_whole : GroupKeys → (number time draw : ℕ) → Process → MemberState → MemberState
 member_publishes_whole g number time draw p a =
     if nat_lt (length a.log) publication_limit
     then member_publishes g (Offers (object_of p)) time draw (member_keeps number (closed p) a) else a
 
--- The member after a block, by what became of that.
+-- The member after a block, by the block's result.
 abbrev pub after_block : GroupKeys → (number time draw : ℕ) → MemberState → BlockState → MemberState
 after_block g number time draw a Unknown = a
 after_block g number time draw a Already = a
 after_block g number time draw a (Waiting p) = member_keeps number p a
 after_block g number time draw a (Whole p) = member_publishes_whole g number time draw p a
 
--- The member after a block came for a process.
+-- The member after it received the block `index` of a process.
 abbrev pub member_blocks : GroupKeys → (process index : ℕ) → List ℕ → (time draw : ℕ) → MemberState → MemberState
 member_blocks g process index content time draw a =
     after_block g process time draw a (member_block a process index content)
 
--- What a block completes is an object.
+-- A block that completes an object completes one within the limits.
 abbrev pub CompletesAnObject : BlockState → Type 0
 CompletesAnObject (Whole p) = IsObject (object_of p)
 CompletesAnObject _ = Unit {0}

@@ -33,8 +33,8 @@ use Rattle.repo_member.specs.Outcomes.{outcome_of, IsOutcome, IsCheckedFor}
 use Rattle.repo_member.specs.Commanded.{coded, order_of, member_after_order}
 use Rattle.repo_member.specs.Blocks.{member_blocks}
 
--- A public call of a member that isn't of a look alone, with what it is given: octets, vectors, fetchers, times and
--- draws. One that is out of memory changes nothing, so it is in no list.
+-- A public call of a member, except those that only read it, with its arguments: octets, vectors, fetchers, times and
+-- draws. A call that runs out of memory changes nothing, so it stands in no list.
 pub data MemberCall : Type 0 where
   Publish : NamedContents → ℕ → ℕ → MemberCall
   Withdraw : ℕ → ℕ → ℕ → MemberCall
@@ -59,12 +59,12 @@ pub data MemberCall : Type 0 where
 
 -- ---- what a call makes of a member: nothing, where it is refused
 
--- The vector is learnt, and the sync state hears it.
+-- Where a vector passes, the member takes it, and its sync state hears it.
 abbrev pub if_heard : ℕ → ℕ → MemberState → Result (List ℕ) HearRefusal → MemberState
 if_heard time draw a (Ok received) = member_hears received time draw a
 if_heard time draw a (Err refusal) = a
 
--- The vector is learnt.
+-- Where a vector passes, the member takes it. Its sync state isn't informed of it.
 abbrev pub if_joined : MemberState → Result (List ℕ) HearRefusal → MemberState
 if_joined a (Ok received) = member_learns received a
 if_joined a (Err refusal) = a
@@ -79,7 +79,7 @@ abbrev pub if_lost : ℕ → MemberState → Option Part → MemberState
 if_lost f a None = a
 if_lost f a (Some t) = member_claims f None a
 
--- A fetcher's part is held where the octets pass for it.
+-- The part that fetcher `f` claims is held from now on, where the octets pass for it.
 abbrev pub if_accepted : ℕ → List ℕ → MemberState → Result Part AcceptRefusal → MemberState
 if_accepted f octets a (Ok t) = member_accepts f t octets a
 if_accepted f octets a (Err refusal) = a
@@ -89,7 +89,7 @@ abbrev pub if_claimed_held : ℕ → List ℕ → MemberState → Option Part �
 if_claimed_held f octets a None = a
 if_claimed_held f octets a (Some t) = member_accepts f t octets a
 
--- What is published, where there is a number for it.
+-- The member publishes `post`, where it has a number left for it.
 abbrev pub if_numbers : GroupKeys → Post → ℕ → ℕ → MemberState → MemberState
 if_numbers g post time draw a =
     if nat_lt (length a.log) publication_limit then member_publishes g post time draw a else a
@@ -141,8 +141,8 @@ abbrev pub IsCheckedOutcome : GroupKeys → MemberState → List Job → List (O
 IsCheckedOutcome g a jobs parts attempts =
     IsOutcome g a jobs parts attempts × All (λ part. IfSome part IsChecked) parts
 
--- The conditions of a call, except those that keep times and draws small. A checked part passed its checks by its
--- type, and so is the name in a command a name.
+-- The conditions of a call, except those that keep times and draws small. They include what the types of arguments
+-- ensure: a checked part passed its checks, and the name in a command is a name.
 abbrev pub IsAllowedCall : GroupKeys → MemberState → MemberCall → Type 0
 IsAllowedCall g a (Publish object time draw) = IsObject object
 IsAllowedCall g a (Withdraw seq time draw) = Unit {0}
@@ -167,12 +167,12 @@ IsAllowedCall g a (Reset time draw) = Unit {0}
 IsAllowedCall g a (Restart time draw) = Unit {0}
 IsAllowedCall g a OrderNames = Unit {0}
 
--- Each call's conditions hold when its turn comes.
+-- The conditions of each call of a list hold of the member as it is then.
 abbrev pub AreAllowedCalls : GroupKeys → MemberState → List MemberCall → Type 0
 AreAllowedCalls g a [] = Unit {0}
 AreAllowedCalls g a (call ∷ calls) = IsAllowedCall g a call × AreAllowedCalls g (after_call g call a) calls
 
--- It holds of every member of a group, from its beginning on and after any calls.
+-- `P` holds of every member of a group, from its beginning on and after any calls.
 abbrev pub InEveryMember : (GroupKeys → MemberState → Type 0) → Type 0
 InEveryMember P = (g : GroupKeys) (number time draw : ℕ) (calls : List MemberCall)
     → IsGroup g → number < length g.members.names →
@@ -181,7 +181,7 @@ InEveryMember P = (g : GroupKeys) (number time draw : ℕ) (calls : List MemberC
 
 -- ---- what is published
 
--- A log has the earlier one as its prefix, and so is no shorter.
+-- `log` has `earlier` as its prefix, and so is no shorter.
 pub record GoesOn (earlier log : List Post) : Type 0 where
   pub prefix : take (length earlier) log ≡ earlier
   pub longer : length earlier ≤ length log
@@ -196,7 +196,8 @@ PublicationsStay = (g : GroupKeys) (object : NamedContents) (time draw : ℕ) (c
     → length a.log < publication_limit
     → slice_get (after_calls g (Publish object time draw ∷ calls) a).log (length a.log) ≡ Some (Offers object)
 
--- So does the withdrawal of an object that was not withdrawn.
+-- The withdrawal that is published after `n` publications, of an object that was not withdrawn, stands at place `n`
+-- too.
 abbrev pub WithdrawalsStay : Type 0
 WithdrawalsStay = (g : GroupKeys) (seq time draw : ℕ) (calls : List MemberCall) (a : MemberState)
     → has_unwithdrawn a.log seq ≡ true → length a.log < publication_limit
@@ -227,12 +228,13 @@ vector_of_call g a (JoinFrom octets) = vector_taken (hear_verdict g a octets)
 vector_of_call g a (JoinVector received) = vector_taken (vector_verdict a received)
 vector_of_call g a _ = []
 
--- The vectors that it heard in calls, in order.
+-- The vectors that the member took in a list of calls, in order.
 abbrev pub vectors_received : GroupKeys → List MemberCall → MemberState → List (List ℕ)
 vectors_received g [] a = []
 vectors_received g (call ∷ calls) a = vector_of_call g a call ++ vectors_received g calls (after_call g call a)
 
--- A member knows the join of what it knew and of what it heard, and of itself how many objects it published.
+-- After calls the member's vector is the join of the one before and of those that it took. At its own place stands the
+-- number of its publications.
 abbrev pub KnownIsTheJoin : Type 0
 KnownIsTheJoin = (g : GroupKeys) (calls : List MemberCall) (a : MemberState) → IsMemberState a
     → (after_calls g calls a).known

@@ -32,7 +32,7 @@ abbrev pub coded : Result (ℕ × Command) CommandRefusal → Result (ℕ × Com
 coded (Ok order) = Ok order
 coded (Err refusal) = Err (refusal_code refusal)
 
--- the number of the client and its command, or the code of the refusal
+-- the number of the client that signed the command `octets`, and the command; or the code of the refusal
 abbrev pub order_of : GroupKeys → ℕ → List ℕ → Result (ℕ × Command) ℕ
 order_of g number octets = coded (command_verdict (node_at g number) g.clients.ring octets)
 
@@ -48,7 +48,8 @@ MadeOrdersAreTaken = (g : GroupKeys) (number client : ℕ) (command : Command) �
     → is_command command ≡ true
     → order_of g number (order_made g number client command) ≡ Ok (client, command)
 
--- One that goes beyond them is refused as what doesn't read so, whoever makes it.
+-- A command that goes beyond the limits, though its name isn't too long, is refused as malformed, whichever client
+-- makes it.
 abbrev pub OrdersBeyondAreMalformed : Type 0
 OrdersBeyondAreMalformed = (g : GroupKeys) (number client : ℕ) (command : Command) → IsGroup g
     → number < length g.members.names → client < length g.clients.names → CommandIsSpelled command
@@ -110,7 +111,7 @@ reply_named g number answer name =
     then Some (written_data name None (written_answer answer) (key_name (node_at g number)) (member_key g number))
     else None
 
--- the same of the name of an Interest
+-- the reply to octets that are read as an Interest; octets that are none have no reply
 abbrev pub reply_to_interest : GroupKeys → ℕ → Answer → Result Interest PacketFault → Option (List ℕ)
 reply_to_interest g number answer (Ok i) = reply_named g number answer i.name
 reply_to_interest g number answer (Err fault) = None
@@ -119,7 +120,8 @@ reply_to_interest g number answer (Err fault) = None
 abbrev pub reply_to_octets : GroupKeys → ℕ → Answer → List ℕ → Option (List ℕ)
 reply_to_octets g number answer octets = reply_to_interest g number answer (interest_of octets)
 
--- What a member answers to octets, and the packet that says it. A command that they are is as it is spelled.
+-- What a member answers to octets, and the packet that says it. A command that the octets are has names that are names,
+-- and numbers of 64 bits at most.
 pub record IsAnswerTo (g : GroupKeys) (octets : List ℕ) (a : MemberState) (answered : Answered) : Type 0 where
   pub spelled : IfOk (order_of g a.number octets) (λ order. CommandIsSpelled order.1)
   pub answer : answered.answer ≡ member_order_answer (order_of g a.number octets) a

@@ -1,4 +1,4 @@
--- Which changes leave a member one whose stored packets are those of their parts, as each is in a sound group.
+-- Which changes keep a member consistent: sound in its group, and with stored packets that were published.
 use Rattle.std.specs.Prelude.{◌≡◌, ℕ, ◌<◌, List, [], ◌∷◌, ◌++◌, length, replicate, Some, None, IfSome}
 use Rattle.std.specs.Prelude.{slice_index_or, slice_set}
 use Rattle.std.specs.List.{All}
@@ -23,19 +23,19 @@ use Rattle.repo_member.specs.InGroup.{AreLogs, GrowInto, published_packet}
 use Rattle.repo_member.specs.ConsistentMembers.{IsConsistentMember}
 use Rattle.repo_member.specs.ConsistentHolders.{ArrivesConsistently}
 
--- A member begins so in a group in which nothing has been published.
+-- A new member is consistent in a group in which nothing has been published.
 abbrev pub BeginsConsistent : Type 0
 BeginsConsistent = (g : GroupKeys) (n number time draw : ℕ) → number < n
     → IsConsistentMember g (replicate n []) (initial_member n number time draw)
 
--- It publishes an object or a withdrawal, and its log has it from now on.
+-- A consistent member stays consistent when it publishes, with the publication in the group's log of its number too.
 abbrev pub PublishesConsistent : Type 0
 PublishesConsistent = (g : GroupKeys) (post : Post) (time draw : ℕ) (logs : Logs) (a : MemberState)
     → IsConsistentMember g logs a →
     let published = member_publishes g post time draw a in
     IsConsistentMember g (slice_set logs a.number published.log) published
 
--- Other members publish.
+-- A consistent member stays consistent when other members publish.
 abbrev pub OthersPublish : Type 0
 OthersPublish = (g : GroupKeys) (logs later : Logs) (a : MemberState) → GrowInto logs later → length later ≡ length logs
     → last_of later a.number ≡ last_of logs a.number → IsConsistentMember g logs a → IsConsistentMember g later a
@@ -45,25 +45,25 @@ abbrev pub LogsHaveGrown : Type 0
 LogsHaveGrown = (logs : Logs) (j : ℕ) (post : Post) → j < length logs
     → GrowInto logs (slice_set logs j (slice_index_or logs j [] ++ post ∷ []))
 
--- It is informed of a vector that reports no publication that there isn't.
+-- A consistent member stays consistent when it takes a vector that reports no publication that there isn't.
 abbrev pub LearnsConsistent : Type 0
 LearnsConsistent = (g : GroupKeys) (logs : Logs) (received : List ℕ) (a : MemberState)
     → IsConsistentVector logs received → IsConsistentMember g logs a
     → IsConsistentMember g logs (member_learns received a)
 
--- It hears a vector that reports no publication that there isn't.
+-- A consistent member stays consistent when it hears a vector that reports no publication that there isn't.
 abbrev pub HearsConsistent : Type 0
 HearsConsistent = (g : GroupKeys) (logs : Logs) (received : List ℕ) (time draw : ℕ) (a : MemberState)
     → IsConsistentVector logs received
     → IsConsistentMember g logs a → IsConsistentMember g logs (member_hears received time draw a)
 
--- Insertion processes are its own affair.
+-- A consistent member stays consistent whatever its insertion processes are.
 abbrev pub InsertsConsistent : Type 0
 InsertsConsistent = (g : GroupKeys) (logs : Logs) (insertions : Insertions) (a : MemberState)
     → IsConsistentMember g logs a
     → IsConsistentMember g logs (record a { insertions = insertions })
 
--- A block comes; the last one publishes an object.
+-- A consistent member stays consistent when it takes a block. The last block of an insertion publishes an object.
 abbrev pub BlocksConsistent : Type 0
 BlocksConsistent = (g : GroupKeys) (process index : ℕ) (content : List ℕ) (time draw : ℕ) (logs : Logs)
     (a : MemberState)
@@ -71,59 +71,61 @@ BlocksConsistent = (g : GroupKeys) (process index : ℕ) (content : List ℕ) (t
     let later = member_blocks g process index content time draw a in
     IsConsistentMember g (slice_set logs a.number later.log) later
 
--- It hides the publications of a name.
+-- A consistent member stays consistent when it hides the publications of a name.
 abbrev pub DeletesConsistent : Type 0
 DeletesConsistent = (g : GroupKeys) (logs : Logs) (name : List Component) (a : MemberState) → AreLogs g logs
     → IsConsistentMember g logs a → IsConsistentMember g logs (member_deletes name a)
 
--- A command is answered.
+-- A consistent member stays consistent when it obeys a command.
 abbrev pub ObeysConsistent : Type 0
 ObeysConsistent = (g : GroupKeys) (logs : Logs) (command : Command) (a : MemberState) → AreLogs g logs
     → IsConsistentMember g logs a → IsConsistentMember g logs (member_obeys command a)
 
--- Its timer fires.
+-- A consistent member stays consistent when its timer is asked.
 abbrev pub FiresConsistent : Type 0
 FiresConsistent = (g : GroupKeys) (logs : Logs) (time draw : ℕ) (a : MemberState) → IsConsistentMember g logs a
     → IsConsistentMember g logs (member_fires time draw a)
 
--- Its sync state is Steady anew.
+-- A consistent member stays consistent when its sync state is reset to Steady.
 abbrev pub ResetsConsistent : Type 0
 ResetsConsistent = (g : GroupKeys) (logs : Logs) (time draw : ℕ) (a : MemberState) → IsConsistentMember g logs a
     → IsConsistentMember g logs (member_resets time draw a)
 
--- It starts again.
+-- A consistent member stays consistent when it starts again.
 abbrev pub RestartsConsistent : Type 0
 RestartsConsistent = (g : GroupKeys) (logs : Logs) (time draw : ℕ) (a : MemberState) → IsConsistentMember g logs a
     → IsConsistentMember g logs (member_restarts time draw a)
 
--- All its claims end.
+-- A consistent member stays consistent when all its claims end.
 abbrev pub EndsClaimsConsistent : Type 0
 EndsClaimsConsistent = (g : GroupKeys) (logs : Logs) (a : MemberState) → IsConsistentMember g logs a
     → IsConsistentMember g logs (member_ends_claims a)
 
--- A fetcher claims the first part that is wanted and that nobody claims, if there is one.
+-- A consistent member stays consistent when a fetcher claims the first part that is wanted and that nobody claims, if
+-- any.
 abbrev pub ClaimsConsistent : Type 0
 ClaimsConsistent = (g : GroupKeys) (logs : Logs) (f : ℕ) (a : MemberState) → AreLogs g logs
     → IsConsistentMember g logs a
     → IsConsistentMember g logs (member_claims f (first (unclaimed (member_plan a))) a)
 
--- A fetcher loses its claim.
+-- A consistent member stays consistent when a fetcher loses its claim.
 abbrev pub LosesConsistent : Type 0
 LosesConsistent = (g : GroupKeys) (logs : Logs) (f : ℕ) (a : MemberState) → IsConsistentMember g logs a
     → IsConsistentMember g logs (member_claims f None a)
 
--- The packet of the part that a fetcher claims is accepted.
+-- A consistent member stays consistent when it accepts the published packet of the part that a fetcher claims.
 abbrev pub AcceptsConsistent : Type 0
 AcceptsConsistent = (g : GroupKeys) (logs : Logs) (f : ℕ) (t : Part) (octets : List ℕ) (a : MemberState)
     → AreLogs g logs
     → claim_of (member_plan a) f ≡ Some t → published_packet g logs t ≡ Some octets → IsConsistentMember g logs a
     → IsConsistentMember g logs (member_accepts f t octets a)
 
--- What was fetched is the packet of its part, which is wanted and which nobody claims.
+-- The octets that were received for part `t` are its published packet; the member wants `t`, and no fetcher claims it.
 abbrev pub IsConsistentArrival : GroupKeys → Logs → MemberState → Part → List ℕ → Type 0
 IsConsistentArrival g logs a t octets = ArrivesConsistently g logs (member_holdings a) t octets
 
--- The outcome of a fetch is taken, which brought such packets.
+-- A consistent member stays consistent when it takes the outcome of a fetch whose packets are published ones of wanted
+-- parts that no fetcher claims.
 abbrev pub TakesConsistent : Type 0
 TakesConsistent = (g : GroupKeys) (logs : Logs) (xs : List Fetched) (a : MemberState) → AreLogs g logs
     → All (λ x. IfSome x.packet (IsConsistentArrival g logs a x.part)) xs → IsConsistentMember g logs a

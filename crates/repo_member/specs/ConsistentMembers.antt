@@ -1,5 +1,4 @@
--- Members as each is in a sound group, whose stored packets are those of their parts: what the group's publications say
--- of them.
+-- Consistent members: sound members of a group whose stored packets were published, and what follows for them.
 use Rattle.std.specs.Prelude.{◌≡◌, ℕ, ◌<◌, ◌≤◌, true, List, [], map, length, Some, unwrap_or, slice_index_or, IsOk}
 use Rattle.std.specs.Prelude.{IsSomeAnd, Ok, nat_le, ◌==◌, if◌then◌else◌}
 use Rattle.sha2.specs.Sha256.{sha256}
@@ -19,8 +18,8 @@ use Rattle.repo_member.specs.MemberState.{MemberState, IsMemberState, IsOfGroup,
 use Rattle.repo_member.specs.Verdicts.{accept_verdict}
 use Rattle.repo_member.specs.InGroup.{in_group, AreLogs, published_packet, AreItsPackets, StoresConsistently}
 
--- The member's log is the group's of its number, it is as each in a sound group, its sync state has a place for each
--- member, and each stored packet is that of its part.
+-- The member's log is the group's of its number, the member is sound in its group, its sync state has a place for each
+-- member, and each stored packet is the one that the publisher of its part made.
 pub record IsConsistentMember (g : GroupKeys) (logs : Logs) (a : MemberState) : Type 0 where
   pub there : a.number < length logs
   pub log : slice_index_or logs a.number [] ≡ a.log
@@ -49,28 +48,28 @@ published_packets g logs ts = map (λ t. (t, unwrap_or (published_packet g logs 
 
 -- ---- what follows
 
--- What holds of every member by itself.
+-- A consistent member satisfies what holds of every member by itself.
 abbrev pub ConsistentIsMemberState : Type 0
 ConsistentIsMemberState = (g : GroupKeys) (logs : Logs) (a : MemberState) → IsConsistentMember g logs a
     → IsMemberState a
 
--- Its vector has a number for each member of the group.
+-- The vector of a consistent member has a number for each member of the group.
 abbrev pub ConsistentIsOf : Type 0
 ConsistentIsOf = (g : GroupKeys) (logs : Logs) (a : MemberState) → AreLogs g logs → IsConsistentMember g logs a
     → IsOfGroup g a
 
--- Each packet that it stores is that of a published part.
+-- Each packet that a consistent member stores is that of a published part.
 abbrev pub ConsistentStores : Type 0
 ConsistentStores = (g : GroupKeys) (logs : Logs) (a : MemberState) → IsConsistentMember g logs a
     → StoresConsistently g logs a
 
--- What it stores are the packets of the parts that it stores.
+-- What a consistent member stores are the published packets of the parts that it holds.
 abbrev pub StoresThose : Type 0
 StoresThose =
     (g : GroupKeys) (logs : Logs) (a : MemberState) → IsConsistentMember g logs a → a.store
     ≡ published_packets g logs (keys a.store)
 
--- What its log gives of an own publication are the packets of its parts.
+-- What a consistent member's log gives of an own publication are the published packets of its parts.
 abbrev pub LogsThose : Type 0
 LogsThose = (g : GroupKeys) (logs : Logs) (a : MemberState) (t : Part) → IsConsistentMember g logs a → t.publisher
     ≡ a.number
@@ -78,24 +77,24 @@ LogsThose = (g : GroupKeys) (logs : Logs) (a : MemberState) (t : Part) → IsCon
 
 -- ---- what is wanted
 
--- A wanted part is there.
+-- A part that a consistent member wants was published.
 abbrev pub WantsPublished : Type 0
 WantsPublished = (g : GroupKeys) (logs : Logs) (a : MemberState) (t : Part) → AreLogs g logs
     → IsConsistentMember g logs a
     → is_wanted (member_plan a) t ≡ true → IsPublishedPart logs t
 
--- The want that the member has of it is that of the published part.
+-- The want that a consistent member has of a part is that of the published part.
 abbrev pub WantsAreConsistent : Type 0
 WantsAreConsistent = (g : GroupKeys) (logs : Logs) (a : MemberState) (t : Part) → AreLogs g logs
     → IsConsistentMember g logs a
     → is_wanted (member_plan a) t ≡ true → want_of g a.store t ≡ published_want g logs t
 
--- A part that is there has a packet, of at most 8,800 octets.
+-- A published part has a packet, of at most 8,800 octets.
 abbrev pub PacketsAreThere : Type 0
 PacketsAreThere = (g : GroupKeys) (logs : Logs) (t : Part) → AreLogs g logs → IsPublishedPart logs t
     → IsSomeAnd (published_packet g logs t) (λ octets. length octets ≤ 8800)
 
--- It passes for the want of the part, and so for a member's.
+-- The packet of a published part passes for the want of that part.
 abbrev pub PacketsPass : Type 0
 PacketsPass = (g : GroupKeys) (logs : Logs) (t : Part) (octets : List ℕ) → AreLogs g logs → IsPublishedPart logs t
     → published_packet g logs t ≡ Some octets → IsOk (ring_verdict (published_want g logs t) g.members.ring octets)

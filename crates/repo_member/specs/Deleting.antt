@@ -7,7 +7,7 @@ use Rattle.repo_holdings.specs.Listed.{member_catalogue}
 use Rattle.repo_holdings.specs.Hiding.{outside_all, with_hidden}
 use Rattle.repo_member.specs.MemberState.{MemberState}
 
--- these publications are hidden, and none of their packets is stored
+-- the publications `pairs` are hidden, and none of their packets is stored
 abbrev pub member_state_hides : List Pair → MemberState → MemberState
 member_state_hides pairs a = record a { store = outside_all pairs a.store; hidden = with_hidden pairs a.hidden }
 
@@ -19,6 +19,6 @@ catalogued_named name a = all_named name (member_catalogue a.store)
 abbrev pub member_deletes : List Component → MemberState → MemberState
 member_deletes name a = member_state_hides (catalogued_named name a) a
 
--- how many packets are dropped
+-- how many packets are dropped when the member deletes the objects of that name
 abbrev pub member_drops : List Component → MemberState → ℕ
 member_drops name a = length a.store - length (member_deletes name a).store

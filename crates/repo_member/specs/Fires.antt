@@ -5,7 +5,7 @@ use Rattle.svs_sync.specs.declared.fired.Fired.TheVariants as fired
 use Rattle.repo_member.specs.declared.member.syncing.Fire.{Fire}
 use Rattle.repo_member.specs.declared.member.syncing.Fire.TheVariants.{Early, Quiet, Sent}
 
--- it does what its sync state says, and what it sends are these octets
+-- the member does what its sync state says, and the sync Interest that it sends is `octets`
 abbrev pub IsFireAnswer : Fired → List ℕ → Fire → Type 0
 IsFireAnswer fired.Early octets Early = Unit {0}
 IsFireAnswer fired.Quiet octets Quiet = Unit {0}

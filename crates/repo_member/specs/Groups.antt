@@ -53,7 +53,7 @@ client_at group client = unwrap_or (slice_get group.clients.names client) []
 abbrev pub client_key_at : GroupKeys → ℕ → List ℕ
 client_key_at group client = (unwrap_or (slice_get group.clients.ring client) (pair [] [])).key
 
--- who a member publishes as
+-- the publisher that member `number` is: its node name, the group's name and its key
 abbrev pub publisher_at : GroupKeys → ℕ → Publisher
 publisher_at group number = publisher (node_at group number) group.name (member_key group number)
 
@@ -71,8 +71,8 @@ pub record IsKey (key : List ℕ) : Type 0 where
   pub some : 1 ≤ length key
   pub short : length key ≤ 128
 
--- the names in the ring are those of the nodes' keys, number by number; there are 16 nodes at most, and no two have one
--- name
+-- the names in the ring are those of the nodes' keys, number by number; there are 16 nodes at most, and no two have the
+-- same name
 pub record HaveKeys (nodes : NodeKeys) : Type 0 where
   pub keys : map (λ (p : NamedKey). p.name) nodes.ring ≡ map (λ node. encoding (key_name node)) nodes.names
   pub roster : IsRoster nodes.names
@@ -83,7 +83,7 @@ pub record HaveKeys (nodes : NodeKeys) : Type 0 where
 abbrev pub DifferInNames : NodeKeys → NodeKeys → Type 0
 DifferInNames members clients = All (λ node. member_of node clients.names ≡ None) members.names
 
--- a group's name is one, and no client has the name of a member
+-- the group's name is within the limits of names, and no client has the name of a member
 pub record GroupIsNamed (group : GroupKeys) : Type 0 where
   pub name : IsPlainNodeName group.name
   pub apart : DifferInNames group.members group.clients

@@ -31,13 +31,13 @@ use Rattle.repo_member.specs.InGroup.{AreTries}
 use Rattle.repo_member.specs.Commanded.{member_obeys, member_after_order, answer_to, member_order_answer}
 use Rattle.repo_member.specs.Blocks.{member_block, member_blocks}
 
--- The member of that number is this one.
+-- The member `j` of the group is the member `a` by itself.
 pub record IsMemberOf (w : World) (j : ℕ) (a : MemberState) : Type 0 where
   pub there : j < length w.members
   pub number : a.number ≡ j
   pub same : member w j ≡ in_group a
 
--- The group's publications can be, and the member stores those packets of them that it holds.
+-- The group's logs are within the limits, and the member stores the packets of what was published.
 pub record IsConsistentIn (g : GroupKeys) (w : World) (a : MemberState) : Type 0 where
   pub published : AreLogs g (logs w)
   pub stores : StoresConsistently g (logs w) a
@@ -82,7 +82,7 @@ abbrev pub RestartIsEvent : Type 0
 RestartIsEvent = (env : Environment) (w : World) (j : ℕ) (a : MemberState) → IsMemberOf w j a
     → member (after_event env w (Event.Restart j)) j ≡ in_group (member_restarts w.time (drawn env w j) a)
 
--- ---- what is claimed and comes
+-- ---- what is claimed and received
 
 -- A fetcher that claims nothing claims the part that the group says.
 abbrev pub ClaimIsEvent : Type 0
@@ -102,7 +102,7 @@ AnswerIsEvent = (env : Environment) (w : World) (j f q : ℕ) (t : Part) (octets
     → member (after_event env w (Event.Answer j f q)) j
     ≡ in_group (if passes_checks (response_from env w q (Some t)) then member_accepts f t octets a else a)
 
--- So are octets from outside.
+-- Octets from outside are accepted for a claimed part where they pass its checks.
 abbrev pub FeedIsEvent : Type 0
 FeedIsEvent = (env : Environment) (w : World) (j f : ℕ) (read : Logs → Part → Response) (t : Part) (octets : List ℕ)
     (a : MemberState)
@@ -124,14 +124,14 @@ FetchIsEvent = (env : Environment) (w : World) (j tries loss : ℕ) (xs : List F
 
 -- ---- commands and blocks
 
--- A command that a client made, or octets that are refused with this code.
+-- The member obeys a command that a client made. Octets that are refused with a code change nothing.
 abbrev pub OrderIsEvent : Type 0
 OrderIsEvent = (env : Environment) (w : World) (j : ℕ) (order : Result (ℕ × Command) ℕ) (g : GroupKeys)
     (a : MemberState)
     → IsMemberOf w j a → IsConsistentIn g w a
     → member (after_event env w (Event.Order j order)) j ≡ in_group (member_after_order order a)
 
--- The group replies to such a command with the member's answer.
+-- The group replies to a client's command, or to octets that are refused with a code, with the member's answer.
 abbrev pub OrderIsAnswered : Type 0
 OrderIsAnswered = (env : Environment) (w : World) (j : ℕ) (order : Result (ℕ × Command) ℕ) (g : GroupKeys)
     (a : MemberState)
@@ -150,12 +150,12 @@ IssueIsAnswered = (env : Environment) (w : World) (j client : ℕ) (command : Co
     → IsMemberOf w j a → IsConsistentIn g w a
     → reply_to env w (Event.Issue j client command) ≡ Reply.Commanded (answer_to command a)
 
--- A block has the same result in both.
+-- A block has the same result in the group and in the member by itself.
 abbrev pub BlockStatesAlike : Type 0
 BlockStatesAlike = (w : World) (j process index : ℕ) (content : List ℕ) (a : MemberState) → IsMemberOf w j a
     → block_at w j process index content ≡ member_block a process index content
 
--- One that is taken.
+-- The member takes a block that isn't refused.
 abbrev pub BlockIsEvent : Type 0
 BlockIsEvent = (env : Environment) (w : World) (j process index : ℕ) (content : List ℕ) (g : GroupKeys)
     (a : MemberState)
@@ -165,12 +165,12 @@ BlockIsEvent = (env : Environment) (w : World) (j process index : ℕ) (content 
 
 -- ---- a settle
 
--- What vectors make of a member, where its sync state isn't informed of them.
+-- The member after it took vectors one by one, without its sync state being informed of them.
 abbrev pub learns_all : List (List ℕ) → MemberState → MemberState
 learns_all [] a = a
 learns_all (received ∷ others) a = learns_all others (member_learns received a)
 
--- It learns the join of them all, and nothing else of it changes.
+-- A member that takes vectors one by one has the join of its own and them all, and nothing else of it changes.
 abbrev pub LearnsAtOnce : Type 0
 LearnsAtOnce = (vectors : List (List ℕ)) (a : MemberState)
     → learns_all vectors a ≡ record a { known = join_all (a.known ∷ vectors) }
@@ -179,19 +179,19 @@ LearnsAtOnce = (vectors : List (List ℕ)) (a : MemberState)
 abbrev pub AreAllVectors : World → MemberState → List (List ℕ) → Type 0
 AreAllVectors w a vectors = HaveSameVectors (a.known ∷ vectors) (map (λ m. m.known) w.members)
 
--- So it learns what the group settles on.
+-- A member that takes the vectors of all members has the vector that the group settles on.
 abbrev pub LearnsWhatAllKnow : Type 0
 LearnsWhatAllKnow = (w : World) (a : MemberState) (vectors : List (List ℕ)) → AreAllVectors w a vectors
     → (learns_all vectors a).known ≡ settled_vector w
 
--- The member is informed of what all know, the parts come that it gains there, in any order, and none is counted as
--- tried.
+-- In a settle the member takes the vectors of all members, it receives just the parts that it gains, in any order, and
+-- no attempt is counted.
 pub record IsSettling (w : World) (j : ℕ) (a : MemberState) (vectors : List (List ℕ)) (xs : List Fetched) : Type 0 where
   pub received : AreAllVectors w a vectors
   pub came : (t : Part) → contains part_cmp (parts_fetched xs) t ≡ contains part_cmp (new_parts w (member w j)) t
   pub tried : AreTries (λ t. 0) xs
 
--- In a settle the member learns all vectors and takes what it fetched from others.
+-- In a settle the member takes all vectors and what it fetched from others.
 abbrev pub GatheringIsEvent : Type 0
 GatheringIsEvent = (env : Environment) (w : World) (j : ℕ) (vectors : List (List ℕ)) (xs : List Fetched)
     (a : MemberState)
@@ -207,7 +207,7 @@ SettleIsEvent = (env : Environment) (w : World) (j : ℕ) (vectors : List (List 
 
 -- ---- what is reported
 
--- The parts that a member can claim or fetch, and its catalogue.
+-- The parts that a member can claim or fetch are those that the group has for it.
 abbrev pub OpenPartsAlike : Type 0
 OpenPartsAlike = (w : World) (j : ℕ) (g : GroupKeys) (a : MemberState) → IsMemberOf w j a → IsConsistentIn g w a
     → unclaimed_at w j ≡ unclaimed (member_plan a)

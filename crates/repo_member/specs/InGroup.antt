@@ -51,68 +51,69 @@ in_group a = record {
   next_process = a.insertions.next_process;
 }
 
--- What is stored is in order of the parts, each once.
+-- The member stores its packets in order of the parts, each part once.
 abbrev pub StoresInOrder : MemberState → Type 0
 StoresInOrder a = Rises part_cmp (keys a.store)
 
--- ---- changes: each of the member by itself is the group's change of that member
+-- ---- changes of a member by itself, which are changes of that member in its group
 
--- A member begins as each does in a group in which nothing has happened.
+-- A new member by itself is a member of a group in which nothing has happened.
 abbrev pub BeginsAlike : Type 0
 BeginsAlike =
     (env : Environment) (n j : ℕ) → j < n → in_group (initial_member n j 0 (env.draw j 0))
     ≡ member (initial_world env n) j
 
--- It publishes an object or a withdrawal, and stores all its packets.
+-- Publishing an object or a withdrawal, with all packets stored, changes the member in its group as the group says.
 abbrev pub PublishesAlike : Type 0
 PublishesAlike = (g : GroupKeys) (post : Post) (time draw : ℕ) (a : MemberState) → StoresInOrder a
     → in_group (member_publishes g post time draw a) ≡ group.publishes draw time a.number post (in_group a)
 
--- It is informed of a vector.
+-- Hearing a vector changes the member in its group as the group says.
 abbrev pub HearsAlike : Type 0
 HearsAlike = (received : List ℕ) (time draw : ℕ) (a : MemberState)
     → in_group (member_hears received time draw a) ≡ group.learns draw time received (in_group a)
 
--- A vector that the sync state isn't informed of, as in a settle.
+-- Taking a vector of which the sync state isn't informed, as in a settle, joins it to the vector in the group, too.
 abbrev pub LearnsAlike : Type 0
 LearnsAlike = (received : List ℕ) (a : MemberState)
     → in_group (member_learns received a) ≡ record (in_group a) { known = join (in_group a).known received }
 
--- What the timer makes of a member, by what it says.
+-- A member of a group after its timer was asked, by the timer's answer.
 abbrev pub after_timer : Fired → (draw time : ℕ) → Member → Member
 after_timer fired.Early draw time m = m
 after_timer fired.Quiet draw time m = group.resets draw time m
 after_timer fired.Send draw time m = group.resets draw time m
 
--- Its timer fires.
+-- Asking the timer changes the member in its group as the group says.
 abbrev pub FiresAlike : Type 0
 FiresAlike = (time draw : ℕ) (a : MemberState)
     → in_group (member_fires time draw a)
     ≡ after_timer (when_fired time (in_group a).known (in_group a).machine) draw time (in_group a)
 
--- A fetcher claims a part, or nothing.
+-- A fetcher's claim of a part, or of nothing, changes the member in its group as the group says.
 abbrev pub ClaimsAlike : Type 0
 ClaimsAlike = (f : ℕ) (claim : Option Part) (a : MemberState)
     → in_group (member_claims f claim a) ≡ group.member_with_claim f claim (in_group a)
 
--- A packet came for the part that a fetcher claims.
+-- Accepting the packet of a fetcher's part changes the member in its group as the group says.
 abbrev pub AcceptsAlike : Type 0
 AcceptsAlike = (f : ℕ) (t : Part) (octets : List ℕ) (a : MemberState) → StoresInOrder a
     → in_group (member_accepts f t octets a) ≡ group.takes f t (in_group a)
 
--- The parts that a fetch asked for, and those of them that came.
+-- The parts that a fetch asked for.
 abbrev pub asked_for : List Fetched → List Part
 asked_for xs = map (λ x. x.part) xs
 
--- The parts of a fetch whose packets came.
+-- The parts of a fetch whose packets were received.
 abbrev pub parts_fetched : List Fetched → List Part
 parts_fetched xs = asked_for (filter (λ x. is_some x.packet) xs)
 
--- Each part was tried so often.
+-- Each part was tried as often as `tries` says.
 abbrev pub AreTries : (Part → ℕ) → List Fetched → Type 0
 AreTries tries xs = All (λ x. x.attempts ≡ tries x.part) xs
 
--- The outcome of a fetch: the parts that came are held, and the attempts of each count.
+-- Taking the outcome of a fetch changes the member in its group so: it holds the parts that were received, and the
+-- attempts of each part are counted.
 abbrev pub TakesAlike : Type 0
 TakesAlike = (tries : Part → ℕ) (xs : List Fetched) (a : MemberState) → StoresInOrder a → AreTries tries xs
     → in_group (member_takes xs a)
@@ -120,35 +121,35 @@ TakesAlike = (tries : Part → ℕ) (xs : List Fetched) (a : MemberState) → St
       attempts = with_each_tried tries (asked_for xs) (in_group a).attempts;
     }
 
--- All claims end.
+-- The end of all claims changes the member in its group as the group says.
 abbrev pub EndsClaimsAlike : Type 0
 EndsClaimsAlike = (a : MemberState) → in_group (member_ends_claims a) ≡ member_without_claims (in_group a)
 
--- Its sync state is Steady again.
+-- Resetting the sync state to Steady changes the member in its group as the group says.
 abbrev pub ResetsAlike : Type 0
 ResetsAlike = (time draw : ℕ) (a : MemberState)
     → in_group (member_resets time draw a) ≡ group.resets draw time (in_group a)
 
--- It starts again.
+-- A restart changes the member in its group as the group says.
 abbrev pub RestartsAlike : Type 0
 RestartsAlike = (time draw : ℕ) (a : MemberState)
     → in_group (member_restarts time draw a) ≡ group.restarts draw time (in_group a)
 
--- An insertion process begins, where there is a number for it.
+-- The begin of an insertion process, where there is a number for it, changes the member in its group as the group says.
 abbrev pub StartsAlike : Type 0
 StartsAlike = (name : List Component) (first last : ℕ) (a : MemberState)
     → in_group (member_state_starts name first last a (next_number a.insertions))
     ≡ (if can_start (in_group a) then group.member_starts name first last (in_group a) else in_group a)
 
--- A block is kept.
+-- Keeping an insertion process under a number changes the member in its group as the group says.
 abbrev pub KeepsAlike : Type 0
 KeepsAlike = (number : ℕ) (p : Process) (a : MemberState)
     → in_group (member_keeps number p a) ≡ group.member_with_process number p (in_group a)
 
 -- ---- what is stored and what was published
 
--- What the members of a group can have published: as many logs as there are members, of objects within the limits and
--- withdrawals of earlier numbers, and no more of them than there are numbers.
+-- What the members of a group can have published: a log for each member, of objects within the limits and withdrawals
+-- of earlier numbers, with no more publications than there are numbers.
 pub record AreLogs (g : GroupKeys) (logs : Logs) : Type 0 where
   pub group : IsGroup g
   pub width : length logs ≡ length g.members.names
@@ -159,7 +160,7 @@ pub record AreLogs (g : GroupKeys) (logs : Logs) : Type 0 where
 abbrev pub published_packet : GroupKeys → Logs → Part → Option (List ℕ)
 published_packet g logs t = packet_at (publisher_at g t.publisher) t.seq (post_at logs (pair_of t)) t.part
 
--- Each stored packet is that of its part.
+-- Each stored packet is the one that the publisher of its part made.
 abbrev pub AreItsPackets : GroupKeys → Logs → MemberState → Type 0
 AreItsPackets g logs a = (t : Part) (octets : List ℕ) → value_of part_cmp a.store t ≡ Some octets
     → published_packet g logs t ≡ Some octets
@@ -170,8 +171,8 @@ pub record StoresConsistently (g : GroupKeys) (logs : Logs) (a : MemberState) : 
   pub published : (t : Part) → member_holds (in_group a) t ≡ true → IsPublished logs (pair_of t)
   pub packets : AreItsPackets g logs a
 
--- A member that is as each is in a group that events can reach stores truly, where the packets are those of their
--- parts.
+-- A member that is sound in its group, and whose stored packets are those that the publishers of their parts made,
+-- stores consistently.
 abbrev pub SoundStoresConsistently : Type 0
 SoundStoresConsistently = (g : GroupKeys) (logs : Logs) (a : MemberState) → IsSoundMember logs a.number (in_group a)
     → AreItsPackets g logs a → StoresConsistently g logs a
@@ -181,19 +182,19 @@ abbrev pub PlansAlike : Type 0
 PlansAlike = (g : GroupKeys) (logs : Logs) (a : MemberState) → AreLogs g logs → StoresConsistently g logs a
     → member_plan a ≡ group_member.plan_of logs (in_group a)
 
--- So it wants the records of the known publications, and the published parts that those or index packets list which it
--- holds, that it neither holds nor hides.
+-- The member wants the parts that the group says: the records of the known publications, and the published parts that a
+-- record or index packet lists which it holds; none that it holds or hides.
 abbrev pub WantsAlike : Type 0
 WantsAlike = (g : GroupKeys) (logs : Logs) (a : MemberState) (t : Part) → AreLogs g logs → StoresConsistently g logs a
     → HoldsRecords (in_group a)
     → (contains part_cmp (wanted (member_plan a)) t ≡ true) ↔ IsWantedPart logs (in_group a) t
 
--- Its catalogue, which reads the stored packets, is the group's catalogue of that member.
+-- The catalogue of the member by itself, which reads the stored packets, is the group's catalogue of that member.
 abbrev pub ListsAlike : Type 0
 ListsAlike = (g : GroupKeys) (logs : Logs) (a : MemberState) → AreLogs g logs → StoresConsistently g logs a
     → member_catalogue a.store ≡ catalogue logs (in_group a)
 
--- So the publications of a name that it hides are those that the group says.
+-- A deletion by name changes the member in its group as the group says: the same publications are hidden.
 abbrev pub DeletesAlike : Type 0
 DeletesAlike = (g : GroupKeys) (logs : Logs) (name : List Component) (a : MemberState) → AreLogs g logs
     → StoresConsistently g logs a
@@ -201,61 +202,61 @@ DeletesAlike = (g : GroupKeys) (logs : Logs) (name : List Component) (a : Member
 
 -- ---- what lasts
 
--- A packet is that of the part, of a publication that there is.
+-- The publication of part `t` was published, and `octets` are the packet of `t` that its publisher made.
 pub record IsItsPacket (g : GroupKeys) (logs : Logs) (t : Part) (octets : List ℕ) : Type 0 where
   pub published : IsPublished logs (pair_of t)
   pub packet : published_packet g logs t ≡ Some octets
 
--- So is the packet that came for a part, if one did.
+-- If a packet was received for part `t`, it is the packet of `t` that its publisher made.
 abbrev pub IsConsistentFetch : GroupKeys → Logs → Part → Option (List ℕ) → Type 0
 IsConsistentFetch g logs t None = Unit {0}
 IsConsistentFetch g logs t (Some octets) = IsItsPacket g logs t octets
 
--- What was published stays under its number, and there may be more.
+-- Each log in `later` begins with the log of the same member in `logs`.
 abbrev pub GrowInto : Logs → Logs → Type 0
 GrowInto logs later = (p : ℕ) → take (last_of logs p) (slice_index_or later p []) ≡ slice_index_or logs p []
 
--- A member that has just begun stores nothing.
+-- A new member stores consistently.
 abbrev pub BeginsConsistently : Type 0
 BeginsConsistently = (g : GroupKeys) (logs : Logs) (members number time draw : ℕ)
     → StoresConsistently g logs (initial_member members number time draw)
 
--- Others may publish more.
+-- A member stores consistently in the logs that `logs` grow into.
 abbrev pub GrowsConsistently : Type 0
 GrowsConsistently = (g : GroupKeys) (logs later : Logs) (a : MemberState) → GrowInto logs later
     → StoresConsistently g logs a
     → StoresConsistently g later a
 
--- The member's log, which is the group's of its number, has the publication too from now on.
+-- A member that publishes stores consistently, where its log with the publication is the group's log of its number.
 abbrev pub PublishesConsistently : Type 0
 PublishesConsistently = (g : GroupKeys) (post : Post) (time draw : ℕ) (logs : Logs) (a : MemberState)
     → a.number < length logs → slice_index_or logs a.number [] ≡ a.log → StoresConsistently g logs a →
     let published = member_publishes g post time draw a in
     StoresConsistently g (slice_set logs a.number published.log) published
 
--- The packet that is accepted is that of its part.
+-- A member that accepts the published packet of a part stores consistently.
 abbrev pub AcceptsConsistently : Type 0
 AcceptsConsistently = (g : GroupKeys) (logs : Logs) (f : ℕ) (t : Part) (octets : List ℕ) (a : MemberState)
     → IsItsPacket g logs t octets → StoresConsistently g logs a
     → StoresConsistently g logs (member_accepts f t octets a)
 
--- So is each that a fetch brought.
+-- A member that takes the outcome of a fetch stores consistently, if each packet is the published one of its part.
 abbrev pub TakesConsistently : Type 0
 TakesConsistently = (g : GroupKeys) (logs : Logs) (xs : List Fetched) (a : MemberState)
     → All (λ x. IsConsistentFetch g logs x.part x.packet) xs → StoresConsistently g logs a
     → StoresConsistently g logs (member_takes xs a)
 
--- All other changes store nothing.
+-- A change that leaves the stored packets as they are leaves the member storing consistently.
 abbrev pub StaysConsistent : Type 0
 StaysConsistent =
     (g : GroupKeys) (logs : Logs) (a b : MemberState) → b.store ≡ a.store → StoresConsistently g logs a
     → StoresConsistently g logs b
 
--- A group begins with nothing published.
+-- Logs without a publication, one for each member, can be what the members of a group have published.
 abbrev pub LogsBegin : Type 0
 LogsBegin = (g : GroupKeys) → IsGroup g → AreLogs g (replicate (length g.members.names) [])
 
--- A member publishes once more.
+-- Logs stay within the limits when a member publishes once more, where it has a number left for it.
 abbrev pub LogsGrow : Type 0
 LogsGrow = (g : GroupKeys) (logs : Logs) (j : ℕ) (post : Post) → AreLogs g logs → j < length logs
     → IsPost (last_of logs j + 1) post → last_of logs j < publication_limit

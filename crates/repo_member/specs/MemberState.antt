@@ -1,4 +1,4 @@
--- A member by itself: what it has, without what it can't know of others.
+-- A member by itself: its own state, without what it can't know of other members.
 use Rattle.std.specs.Prelude.{◌≡◌, ℕ, ◌+◌, ◌-◌, ◌<◌, true, List, [], ◌∷◌, ◌++◌, length, Option, Some, None, slice_get}
 use Rattle.std.specs.Prelude.{slice_set, slice_index, replicate, ◌==◌, if◌then◌else◌}
 use Rattle.std.specs.Option.{option_and_then}
@@ -23,11 +23,11 @@ use Rattle.repo_holdings.specs.Records.{Packet}
 use Rattle.repo_holdings.specs.HoldingsState.{HoldingsState, held_plan}
 use Rattle.repo_member.specs.Groups.{GroupKeys, publisher_at}
 
--- what a member has
+-- all that a member has by itself
 pub record MemberState : Type 0 where
-  pub number : ℕ  -- its own, in its group
+  pub number : ℕ  -- its place in the group
   pub log : List Post  -- what it published, in order
-  pub known : List ℕ  -- its vector: one number a member
+  pub known : List ℕ  -- its vector: a SeqNo for each member
   pub store : List Packet  -- the packet of each part that it holds, in order of the parts
   pub hidden : List Pair  -- in order
   pub claims : List (Option Part)  -- by fetcher; the first stands at place 0
@@ -39,7 +39,7 @@ pub record MemberState : Type 0 where
 abbrev pub no_insertions : Insertions
 no_insertions = record { processes = []; next_process = 1 }
 
--- a member of so many that has nothing
+-- a member that has nothing yet: number `number` of a group of `members` members, with its first draw `draw` at `time`
 abbrev pub initial_member : ℕ → ℕ → ℕ → ℕ → MemberState
 initial_member members number time draw = record {
   number = number;
@@ -53,7 +53,7 @@ initial_member members number time draw = record {
   insertions = no_insertions;
 }
 
--- what it holds of publications
+-- what the member has of publications: its vector, packets, hidden publications, claims and attempts
 abbrev pub member_holdings : MemberState → HoldingsState
 member_holdings a = record {
   known = a.known;
@@ -64,12 +64,13 @@ member_holdings a = record {
   spare = 0;
 }
 
--- its fetch plan: it holds what it stores, and the stored records say which parts there are
+-- the member's fetch plan: it holds the parts that it stores, and the stored records say which parts there are
 abbrev pub member_plan : MemberState → PlanState
 member_plan a = held_plan (member_holdings a)
 
--- what holds of every member: it is one of its group, it knows all that it published, it stores each part once, in
--- order, and what it hid is known
+-- what holds of every member: its number is one of its group, its vector has the number of its latest publication, its
+-- sync state is for all members of its vector, it stores each part once, in order, and it knows each publication that
+-- it hid
 pub record IsMemberState (a : MemberState) : Type 0 where
   pub member : a.number < length a.known
   pub own : slice_index a.known a.number ≡ length a.log
@@ -77,11 +78,12 @@ pub record IsMemberState (a : MemberState) : Type 0 where
   pub in_order : Rises part_cmp (keys a.store)
   pub hidden : (pair : Pair) → hides (member_plan a) pair ≡ true → knows (member_plan a) pair ≡ true
 
--- what can be published under the numbers from 1 on: objects within the limits, and withdrawals of earlier numbers
+-- each publication of `log` can have its number, counted from 1: it is an object within the limits, or withdraws an
+-- earlier number
 abbrev pub ArePosts : List Post → Type 0
 ArePosts log = (i : ℕ) (post : Post) → slice_get log i ≡ Some post → IsPost (i + 1) post
 
--- the group has as many members as the member knows of
+-- the number of members of the group is the length of the member's vector
 abbrev pub IsOfGroup : GroupKeys → MemberState → Type 0
 IsOfGroup g a = length g.members.names ≡ length a.known
 
@@ -95,7 +97,7 @@ publication_limit = 65535
 abbrev pub next_seq : MemberState → ℕ
 next_seq a = length a.log + 1
 
--- the member's packets of its next publication
+-- the packets of the member's next publication, `post`, each under its part
 abbrev pub new_packets : GroupKeys → Post → MemberState → List Packet
 new_packets g post a =
     as_parts (a.number, next_seq a) 0 (packets (publisher_at g a.number) (next_seq a) post)
@@ -109,7 +111,7 @@ member_publishes g post time draw a = record a {
   machine = becomes_steady time draw a.machine;
 }
 
--- the packet of an own part that was published, whether it is still stored or not
+-- the packet of part `t` of the publication `post`, as `publisher` makes it under the number that `t` has
 abbrev pub packet_in : Publisher → Part → Post → Option (List ℕ)
 packet_in publisher t post = packet_at publisher t.seq post t.part
 
@@ -127,7 +129,7 @@ logged g a t =
 abbrev pub member_learns : List ℕ → MemberState → MemberState
 member_learns received a = record a { known = join a.known received }
 
--- the sync state hears the vector while the member still knows the one before
+-- the member takes the vector `received`, and its sync state hears it along with the vector that the member had before
 abbrev pub member_hears : List ℕ → ℕ → ℕ → MemberState → MemberState
 member_hears received time draw a =
     record (member_learns received a) { machine = after_hearing time received a.known draw a.machine a.machine.heard }
@@ -147,13 +149,13 @@ member_claims f claim a = record a { claims = slice_set a.claims (f - 1) claim }
 abbrev pub want_of : GroupKeys → List Packet → Part → WantedPart
 want_of g stored t = want_at g.members.names g.name stored t
 
--- a fetcher's part is held from now on, and its claim over
+-- the member stores the packet `octets` of part `t`, and the claim of fetcher `f` ends
 abbrev pub member_accepts : ℕ → Part → List ℕ → MemberState → MemberState
 member_accepts f t octets a = record (member_claims f None a) { store = with_packet t octets a.store }
 
 -- ---- a fetch's outcome
 
--- The packets that came are stored, and all attempts counted.
+-- The packets that were received are stored, and all attempts counted.
 abbrev pub member_takes : List Fetched → MemberState → MemberState
 member_takes [] a = a
 member_takes (x ∷ xs) a = member_takes xs (record a {
@@ -171,7 +173,7 @@ member_ends_claims a = record a { claims = no_claims }
 abbrev pub member_resets : ℕ → ℕ → MemberState → MemberState
 member_resets time draw a = record a { machine = becomes_steady time draw a.machine }
 
--- Insertion processes end, and their numbers go on.
+-- Insertion processes end, and the number of the next one stays.
 abbrev pub member_ends_insertions : MemberState → MemberState
 member_ends_insertions a = record a { insertions = record a.insertions { processes = [] } }
 

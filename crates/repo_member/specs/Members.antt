@@ -26,8 +26,8 @@ abbrev pub AreWaiting : List (ℕ × Process) → Type 0
 AreWaiting processes = (number : ℕ) (p : Process) → value_of nat_cmp processes number ≡ Some p → p.published ≡ false
     → is_whole p ≡ false
 
--- what is held is of the publications that the member knows, its objects are marked where they are withdrawn, and what
--- is whole is published
+-- what holds of a member's fields: they say what a member can have, its holdings have its vector, its log marks objects
+-- where they are withdrawn, and each insertion process that has all its blocks has published its object
 pub record IsMember (m : Inside) : Type 0 where
   pub member_state : IsMemberState (member_state m)
   pub known : m.held.known ≡ m.vector

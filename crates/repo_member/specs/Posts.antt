@@ -22,26 +22,27 @@ abbrev pub IsMarked : List Published → ℕ → Post → Type 0
 IsMarked posts seq (Object object withdrawn) = withdrawn ≡ list_any (λ o. withdraws_number o seq) posts
 IsMarked posts seq (Withdrawal earlier) = Unit {0}
 
--- a log of what can be published, whose objects are marked so
+-- a log whose publications can have their numbers, and whose objects are marked as withdrawn exactly where they are
 pub record IsKeptLog (log : List Post) : Type 0 where
   pub posts : ArePosts (posts_of log)
   pub marked : (i : ℕ) (post : Post) → slice_get log i ≡ Some post → IsMarked (posts_of log) (i + 1) post
 
--- a publication under this number, of an object that nothing withdraws yet or a withdrawal of what was published before
+-- a publication that can be added under the number `seq`: an object that isn't marked as withdrawn, or the withdrawal
+-- of an earlier number
 abbrev pub IsNew : ℕ → Post → Type 0
 IsNew seq (Object object withdrawn) = withdrawn ≡ false
 IsNew seq (Withdrawal earlier) = (0 < earlier) × (earlier < seq)
 
--- the contents of its segments
+-- the contents of the segments of an object; a withdrawal has none
 abbrev pub contents_of : Post → List (List ℕ)
 contents_of (Object object withdrawn) = object.contents
 contents_of (Withdrawal seq) = []
 
--- an object, marked as withdrawn
+-- an object, marked as withdrawn; a withdrawal stays as it is
 abbrev pub marked : Post → Post
 marked (Object object withdrawn) = Object object true
 marked (Withdrawal seq) = Withdrawal seq
 
--- the log in which the object of that number is
+-- the log in which the object of number `seq` is marked as withdrawn
 abbrev pub with_mark : ℕ → List Post → List Post
 with_mark seq log = slice_set log (seq - 1) (marked (slice_index_or log (seq - 1) (Withdrawal 0)))

@@ -11,7 +11,8 @@ use Rattle.repo_member.specs.Groups.{GroupKeys, publisher_at}
 use Rattle.repo_member.specs.MemberState.{MemberState, publication_limit, next_seq, member_publishes}
 use Rattle.repo_member.specs.Verdicts.{sync_of}
 
--- all that a publication makes: its packets, of which the first is a record that says this, and the sync Interest
+-- all that publishing `post` makes: its packets, of which the first is a record that `received` describes, and the sync
+-- Interest
 pub record IsPrepared (g : GroupKeys) (a : MemberState) (post : Post) (received : RecordSummary) (made : List (List ℕ))
     (sync : List ℕ)
     : Type 0 where
@@ -19,7 +20,7 @@ pub record IsPrepared (g : GroupKeys) (a : MemberState) (post : Post) (received 
   pub parts : ArePackets received made
   pub synced : sync ≡ sync_of g a.number (slice_set a.known a.number (next_seq a))
 
--- a publication is made, whose packets are these
+-- the member publishes `post`, whose packets are `made`
 abbrev pub publishes_packets : Post → List (List ℕ) → ℕ → ℕ → MemberState → MemberState
 publishes_packets post made time draw a = record a {
   log = a.log ++ post ∷ [];
@@ -33,7 +34,8 @@ pub record CanDraw (time : ℕ) (a : MemberState) : Type 0 where
   pub early : time < 2 ^ 62
   pub few : a.machine.draws < 2 ^ 62
 
--- a publication is made with these packets, and the answer has its number and the sync Interest that was made for it
+-- the publication `made` is published with the packets `packed`, and the answer has its number and the sync Interest
+-- `interest`
 pub record ArePublished (old : MemberState) (made : Post) (packed : List (List ℕ)) (interest : Vec ℕ Global)
     (time draw : ℕ) (later : MemberState) (published : Published)
     : Type 0 where
@@ -41,7 +43,8 @@ pub record ArePublished (old : MemberState) (made : Post) (packed : List (List �
   pub seq : published.seq ≡ next_seq old
   pub sync : published.sync ≡ interest
 
--- a publication that can be made is made, and the answer has its number and the sync Interest that reports it
+-- the publication `made` is within the limits and is published, there was a number for it, and the answer has its
+-- number and the sync Interest that reports it
 pub record IsPublished (g : GroupKeys) (old : MemberState) (made : Post) (time draw : ℕ) (later : MemberState)
     (published : Published)
     : Type 0 where

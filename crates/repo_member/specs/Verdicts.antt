@@ -1,4 +1,4 @@
--- What a member answers to a sync Interest and to a packet that it asked for, but when memory runs out.
+-- What a member answers to a sync Interest and to a packet that it asked for, except where memory runs out.
 use Rattle.std.specs.Prelude.{◌≡◌, ◌≢◌, ◌⊎◌, ℕ, List, Option, Some, None, Result, Ok, Err, IsOk, length, slice_index}
 use Rattle.std.specs.Prelude.{nat_lt, if◌then◌else◌}
 use Rattle.ndn_data.specs.Data.{Data}
@@ -22,34 +22,34 @@ abbrev pub sync_of : GroupKeys → ℕ → List ℕ → List ℕ
 sync_of g number vector =
     sync_interest g.name vector g.members.names (key_name (node_at g number)) (member_key g number)
 
--- a vector that is heard, unless it reports more publications of the member than it made
+-- the vector `received` is heard, unless it reports more publications of the member than it made
 abbrev pub vector_verdict : MemberState → List ℕ → Result (List ℕ) HearRefusal
 vector_verdict a received =
     if nat_lt (length a.log) (slice_index received a.number)
     then Err (OwnNumberAhead (length a.log) (slice_index received a.number))
     else Ok received
 
--- the same of the vector of a sync Interest, where the octets are one
+-- the verdict on the vector of a sync Interest of the group, or the refusal of octets that are none
 abbrev pub received_verdict : MemberState → Result (ℕ × List ℕ) SyncRefusal → Result (List ℕ) HearRefusal
 received_verdict a (Err refusal) = Err (Sync refusal)
 received_verdict a (Ok received) = vector_verdict a received.1
 
--- who signed the sync Interest of the group that octets are, and its vector; or why they are refused
+-- the number of the member that signed the sync Interest `octets`, and its vector; or why the octets are refused
 abbrev pub group_verdict : GroupKeys → List ℕ → Result (ℕ × List ℕ) SyncRefusal
 group_verdict g octets = sync_verdict g.name g.members.names g.members.ring octets
 
--- the vector that the member learns from octets, or why they are refused
+-- the vector that the member takes from octets, or why they are refused
 abbrev pub hear_verdict : GroupKeys → MemberState → List ℕ → Result (List ℕ) HearRefusal
 hear_verdict g a octets = received_verdict a (group_verdict g octets)
 
--- Octets are refused so: by that verdict, or because memory ran out for a vector that passed. This never stands for a
--- refusal of the sync Interest.
+-- A refusal of octets is that of `verdict`, or says that memory ran out for a vector that passed. It is never
+-- `NoMemory` as a refusal of the sync Interest.
 pub record IsHearRefusal (verdict : Result (List ℕ) HearRefusal) (refusal : HearRefusal) : Type 0 where
   pub refused : (refusal ≡ NoMemory) ⊎ (verdict ≡ Err refusal)
   pub memory : refusal ≡ NoMemory → IsOk verdict
   pub sync : refusal ≢ Sync sync_refusal.NoMemory
 
--- a part, where a packet passes for it
+-- the part `t`, where a packet passes for it, or why the packet is refused
 abbrev pub passed : Part → Result Data PartRefusal → Result Part AcceptRefusal
 passed t (Ok d) = Ok t
 passed t (Err refusal) = Err (Refused refusal)

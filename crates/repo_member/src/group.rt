@@ -18,14 +18,14 @@ const CLIENT_LIMIT: usize = MEMBER_LIMIT;
 /// A group of repositories: its name, the node names and keys of its members, and those of the clients whose commands
 /// they take.
 ///
-/// Members and clients are numbered from 0, each kind by itself. No two of them have one name.
+/// Members and clients are numbered from 0, each kind by itself. No two of them have the same name.
 pub struct Group {
     name: Name,
     members: Nodes,
     clients: Nodes,
 }
 
-// A group is dropped by one call, which is proved once, and not field by field wherever one is left.
+// A group is dropped by one call, which is proved once, and not field by field wherever one goes out of scope.
 impl Drop for Group {
     fn drop(self) {
         let Group {
@@ -156,7 +156,7 @@ impl Group {
         &self.name
     }
 
-    /// The number of the member that signed a sync Interest of the group, and its numbers. It takes no
+    /// The number of the member that signed a sync Interest of the group, and the numbers of its vector. It takes no
     /// memory.
     pub(crate) fn check_numbers(&self, octets: &[u8]) -> Result<(u32, VectorNumbers), SyncRefusal>
         ensures verdict { MatchResult result

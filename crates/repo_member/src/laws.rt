@@ -62,23 +62,23 @@ pub fn fetching_and_inserting_are_the_groups()
     ensures keeps { KeepsAlike }
 {}
 
-/// Where each stored packet is that of its part, a member's plan is its group's plan of it, and so it wants the same
-/// parts.
+/// Where each stored packet is the published one of its part, a member's plan is its group's plan of it, and so it
+/// wants the same parts.
 pub fn members_want_what_the_group_says()
     ensures stores { SoundStoresConsistently }
     ensures plans { PlansAlike }
     ensures wants { WantsAlike }
 {}
 
-/// Where each stored packet is that of its part, a member's catalogue is its group's catalogue of it, and so it hides
-/// the same publications of a name.
+/// Where each stored packet is the published one of its part, a member's catalogue is its group's catalogue of it, and
+/// so it hides the same publications of a name.
 pub fn members_list_what_the_group_says()
     ensures lists { ListsAlike }
     ensures deletes { DeletesAlike }
 {}
 
-/// Stored packets are those of their parts from the start on, and stay so: where others publish, where the member
-/// publishes, and where packets come that are those of their parts.
+/// Stored packets are the published ones of their parts from the start on, and stay so: where others publish, where the
+/// member publishes, and where it takes published packets.
 pub fn consistently_stored_lasts()
     ensures begins { BeginsConsistently }
     ensures grows { GrowsConsistently }
@@ -90,8 +90,8 @@ pub fn consistently_stored_lasts()
     ensures logs_grow { LogsGrow }
 {}
 
-/// In any world in which it is a member, publishing, withdrawing, hearing a sync Interest, its timer and a restart make
-/// of a member what the events of that name do.
+/// In any world of which it is part, a member changes by publishing, withdrawing, hearing a sync Interest, its timer
+/// and a restart as the events of those names say.
 pub fn publishing_and_syncing_are_events()
     ensures publish { PublishIsEvent }
     ensures withdraw { WithdrawIsEvent }
@@ -101,8 +101,8 @@ pub fn publishing_and_syncing_are_events()
     ensures restart { RestartIsEvent }
 {}
 
-/// In any world in which it is a member, a claim, a lost claim, an answer of another member, octets from outside and a
-/// fetch make of a member what the events of that name do.
+/// In any world of which it is part, a member changes by a claim, a lost claim, an answer of another member, octets
+/// from outside and a fetch as the events of those names say.
 pub fn fetching_is_events()
     ensures claim { ClaimIsEvent }
     ensures lose { LoseIsEvent }
@@ -111,7 +111,7 @@ pub fn fetching_is_events()
     ensures fetch { FetchIsEvent }
 {}
 
-/// In any world in which it is a member, commands and blocks make of a member what the events of that name do, and the
+/// In any world of which it is part, a member changes by commands and blocks as the events of those names say, and the
 /// world replies what the member answers.
 pub fn commands_and_blocks_are_events()
     ensures order { OrderIsEvent }
@@ -122,8 +122,8 @@ pub fn commands_and_blocks_are_events()
     ensures block_state { BlockStatesAlike }
 {}
 
-/// In any world in which it is a member, a settle makes of a member what that event does, where vectors and parts may
-/// come in any order. The parts that it can claim and its catalogue are those that the world says.
+/// In any world of which it is part, a member changes by a settle as that event says, in whatever order it receives
+/// vectors and parts. The parts that it can claim and its catalogue are those that the world has for it.
 pub fn settles_are_events()
     ensures learns { LearnsAtOnce }
     ensures learns_all { LearnsWhatAllKnow }
@@ -188,8 +188,8 @@ pub fn calls_keep_members_sound()
     ensures insertions { InEveryMember (λ g a. AreWithinLimits a.insertions.processes) }
 {}
 
-/// A member as each is in a sound group, whose stored packets are those of their parts, is one by itself. It stores
-/// the packets of the parts that it holds, and its log gives those of its own.
+/// A consistent member satisfies what holds of every member by itself. It stores the packets of the parts that it
+/// holds, and its log gives those of its own.
 pub fn consistent_members_store_what_was_published()
     ensures member_state { ConsistentIsMemberState }
     ensures group { ConsistentIsOf }
@@ -198,8 +198,8 @@ pub fn consistent_members_store_what_was_published()
     ensures logs { LogsThose }
 {}
 
-/// Such a member wants parts that were published, by the want of the published part. A published part has a packet of
-/// at most 8,800 octets, which passes for that want.
+/// A consistent member wants parts that were published, by the want of the published part. A published part has a
+/// packet of at most 8,800 octets, which passes for that want.
 pub fn published_packets_pass()
     ensures published { WantsPublished }
     ensures wants { WantsAreConsistent }
@@ -208,8 +208,8 @@ pub fn published_packets_pass()
     ensures for_members { PacketsPassForMembers }
 {}
 
-/// Such a member, and whoever else stores so in its group, stores the packets of the parts that it holds. It wants
-/// parts that were published, by the want of the published part, and the packet of the part passes for it.
+/// A consistent member is a consistent holder. A consistent holder stores the packets of the parts that it holds. It
+/// wants parts that were published, by the want of the published part, and the packet of the part passes for it.
 pub fn holders_want_what_was_published()
     ensures members { MembersAreHolders }
     ensures consistent { HoldersStoreConsistently }
@@ -219,22 +219,23 @@ pub fn holders_want_what_was_published()
     ensures passes { PacketsPassForHolders }
 {}
 
-/// Whoever stores so goes on storing so, where it takes packets of wanted parts that are those of their parts. What it
-/// stores then are the parts that came, and those before.
+/// A consistent holder stays consistent where it takes published packets of wanted parts. It stores then the parts that
+/// were received, and those before.
 pub fn holders_take_what_was_published()
     ensures stored { FetchedAreStored }
     ensures members { MembersTakeAll }
     ensures consistent { HoldersTakeConsistently }
 {}
 
-/// What octets are accepted for is what the fetcher claims, and such a member accepts the packet of the part.
+/// Octets are accepted for the part that the fetcher claims, and a consistent member accepts the published packet of
+/// that part.
 pub fn claimed_parts_are_accepted()
     ensures claimed { AcceptsTheClaimed }
     ensures taken { TakesTheConsistent }
 {}
 
-/// A new member is consistent: it is as each in a sound group is, and its stored packets are those of their parts. It
-/// stays so when it publishes, with the last block of an insertion too, and when others publish.
+/// A new member is consistent. It stays so when it publishes, with the last block of an insertion too, and when others
+/// publish.
 pub fn publishing_keeps_members_consistent()
     ensures begins { BeginsConsistent }
     ensures publishes { PublishesConsistent }
@@ -243,7 +244,7 @@ pub fn publishing_keeps_members_consistent()
     ensures grown { LogsHaveGrown }
 {}
 
-/// A consistent member stays so when it learns or hears a vector of what was published, and when its timer fires or is
+/// A consistent member stays so when it takes or hears a vector of what was published, and when its timer fires or is
 /// set anew, or it starts again.
 pub fn syncing_keeps_members_consistent()
     ensures learns { LearnsConsistent }
@@ -274,8 +275,8 @@ pub fn syncs_of_members_are_taken()
     ensures taken { SyncsAreTaken }
 {}
 
-/// Jobs that a member plans, or whoever else holds parts in its group, are of different parts, each wanted and claimed
-/// by nobody; so are the jobs of any such parts in order. Whatever comes of them, if it was checked for them, is an
+/// Jobs that a member plans, or another holder of parts in its group, are of different parts, each wanted and claimed
+/// by nobody; so are the jobs of any such parts in order. Any result of planned jobs that was checked for them is an
 /// outcome that can be taken.
 pub fn planned_jobs_can_be_taken()
     ensures holders { HolderJobsArePlanned }

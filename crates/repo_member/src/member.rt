@@ -36,7 +36,7 @@ pub use syncing::Fire;
 /// One member of a group: its publications, the numbers that it knows, the packets that it holds, the claims of its
 /// sixteen fetchers, its sync state, its catalogue and its insertion processes.
 ///
-/// A call that is refused has changed nothing, running out of memory included.
+/// A call that is refused, or that runs out of memory, has changed nothing.
 pub struct Member {
     number: u32,
     log: Vec<Post>,
@@ -46,7 +46,7 @@ pub struct Member {
     processes: Processes,
 }
 
-// A member is dropped by one call, which is proved once, and not field by field wherever one is left.
+// A member is dropped by one call, which is proved once, and not field by field wherever one goes out of scope.
 impl Drop for Member {
     fn drop(self) {
         let Member {
@@ -60,7 +60,8 @@ impl Drop for Member {
     }
 }
 
-// A member is seen as what it has. Its plan's held parts and its catalogue follow from the packets that it stores.
+// Contracts see a member as its `MemberState`. The held parts of its plan and its catalogue follow from the packets
+// that it stores.
 impl Model for Member {
     ghost use Rattle.repo_member.specs.MemberState.{MemberState};
 
@@ -105,7 +106,7 @@ impl Member {
         self.held.catalogue()
     }
 
-    /// The numbers that the member knows.
+    /// The member's vector.
     //
     // A caller sees the value alone, so `sound` states what holds of every member.
     pub fn vector(&self) -> &Vector
@@ -157,8 +158,8 @@ impl Member {
         self.held.stored(part)
     }
 
-    /// Puts the packets that came since in order of their names, so that an Interest is answered fast. The member stays
-    /// as it is. It allocates nothing.
+    /// Puts the packets that were added since the last call in order of their names, so that an Interest is answered
+    /// fast. The member stays as it is. It allocates nothing.
     pub fn order_names(&mut self)
         ensures { self.new ≡ self.old }
     {

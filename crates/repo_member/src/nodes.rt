@@ -78,7 +78,7 @@ impl Nodes {
     }
 }
 
-// A ring of the same pairs, of which there are so many.
+// A ring of the `len` pairs of `ring`.
 fn copied(alloc: Global, ring: &KeyRing, len: u32) -> Result<KeyRing, AllocError>
     requires { len ≡ length ring.now }
     ensures { IfOk result (λ copy. copy ≡ ring.now) }
@@ -98,7 +98,7 @@ fn add_pair(ring: &mut KeyRing, name: &[u8], key: &[u8]) -> Result<(), AllocErro
 {
     match ring.add(name, key) {
         Ok(_) => Ok(()),
-        // The names of a ring differ, so only memory was wanted.
+        // The names of a ring differ, so the fault can only be that memory ran out.
         Err(_) => Err(AllocError),
     }
 }

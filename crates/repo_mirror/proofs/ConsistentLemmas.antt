@@ -1,4 +1,4 @@
--- A mirror that takes packets which are those of their parts.
+-- A mirror that takes published packets of their parts.
 use Rattle.std.proofs.Common.{◌≡◌, inl, inr, ℕ, Bool, true, false, cond, not, ◌&&◌, ◌||◌, List, []}
 use Rattle.std.proofs.Common.{get_or, refl, sym, ap, ◌∙◌, subst, arith, Option, Some, None, is_some, option_map}
 use Rattle.std.proofs.Common.{unwrap_or}
@@ -49,7 +49,7 @@ reported_kept : (pattern : Pattern) (who : Publisher) (p seq : ℕ) (post : Post
 reported_kept pattern who p seq (Offers object) = refl
 reported_kept pattern who p seq (Withdraws withdrawn) = refl
 
--- a record that came is kept just where what was published is
+-- a record that was received is kept just where what was published is
 record_kept : (g : GroupKeys) (logs : Logs) (pattern : Pattern) (t : Part) (octets : List ℕ) → AreLogs g logs
     → t.part ≡ 0 → IsItsPacket g logs t octets → is_packet_for pattern t octets ≡ is_for pattern logs (pair_of t)
 record_kept g logs pattern t octets are zero its =
@@ -62,7 +62,7 @@ record_kept g logs pattern t octets are zero its =
     (ap (packet_at (publisher_at g t.publisher) t.seq (post_at logs (pair_of t))) (sym zero) ∙ its.packet))
     ∙ reported_kept pattern (publisher_at g t.publisher) t.publisher t.seq (post_at logs (pair_of t))
 
--- ---- one that came
+-- ---- one result
 
 module _ (g : GroupKeys) (logs : Logs) (m : MirrorState) (are : AreLogs g logs) (is : IsConsistentMirror g logs m)
     (x : Fetched) (came : FetchForMirror g logs m x) where
@@ -85,7 +85,7 @@ module _ (g : GroupKeys) (logs : Logs) (m : MirrorState) (are : AreLogs g logs) 
     | inr s ↦ s.accepted
   ]
 
-  -- what isn't kept came
+  -- a packet was received where the result isn't kept
   passed_came : is_fetch_for m.pattern x ≡ false → is_some x.packet ≡ true
   passed_came h = go x.packet h where
     go : (o : Option (List ℕ)) → unwrap_or (option_map (is_packet_for m.pattern x.part) o) true ≡ false
@@ -93,7 +93,7 @@ module _ (g : GroupKeys) (logs : Logs) (m : MirrorState) (are : AreLogs g logs) 
     go None k = absurd (true≢false k)
     go (Some octets) k = refl
 
--- ---- all that came
+-- ---- all results
 
 module _ (g : GroupKeys) (logs : Logs) (m : MirrorState) (xs : List Fetched) (are : AreLogs g logs)
     (is : IsConsistentMirror g logs m) (all : All (FetchForMirror g logs m) xs) where

@@ -13,7 +13,7 @@ use Rattle.repo_mirror.specs.ConsistentMirrors.{IsConsistentMirror, MirrorsAreHo
 use Rattle.repo_mirror.proofs.AskedLemmas.{length-asked}
 
 module _ (g : GroupKeys) (logs : Logs) (m : MirrorState) (is : IsConsistentMirror g logs m) where
-  -- of whom it doesn't ask it knows nothing
+  -- no number that the mirror's holdings know is greater than the last of its publisher
   no_more : (p : ℕ) → get_or (asked_numbers m.pattern.publisher 0 m.known) p 0 ≤ last_of logs p
   no_more p =
       go (is_publisher m.pattern.publisher p) (asked_of_publisher m.pattern.publisher m.known p) where

@@ -1,4 +1,4 @@
--- The jobs of a mirror, one after another, and what came of them.
+-- The jobs of a mirror, one after another, and their results.
 use Rattle.std.proofs.Common.{◌≡◌, ℕ, suc, true, false, List, [], ◌∷◌, map, length, refl, sym, ap, ◌∙◌, subst}
 use Rattle.std.proofs.Common.{Option, Some, None, option_map, is_some, Bor}
 use Rattle.std.specs.Prelude.{IfSome}
@@ -79,7 +79,7 @@ module _ (m : MirrorState) where
         → IsFetchedFor m job part n × AreFetchedFor m later after rest
     first_job jobs later parts after ns rest j p t are = rw (j, p, t) at are
 
-    -- what came of it
+    -- the result of the job `job`
     abbrev pub fetched : Fetched
     fetched = record {
       part = job.want.part;

@@ -116,7 +116,7 @@ module _ (pattern : Pattern) (w : World) (m : Mirror) (group : IsSoundGroup w) (
           to_known = subst (λ (n : ℕ). q.seq ≤ n) (sym (all q.publisher)) is.there.to_last;
         })
 
-    -- what could come is held
+    -- a part that can be gained is held
     comes : (t : Part) → IsPartOf t q → ((t.part ≡ 0) ⊎ IsPartAskedFor pattern (logs w) m t)
         → mirror_holds m t ≡ true
     comes t p part = elim (cases_Bool (mirror_holds m t)) [
@@ -153,7 +153,7 @@ module _ (pattern : Pattern) (w : World) (m : Mirror) (group : IsSoundGroup w) (
             accepted = accepted t p;
           }))
 
-      -- so it is
+      -- the part that lists a part is held
       held_parent : (t : Part) → IsPartOf t q → mirror_holds m (parent (shape_at (logs w) (pair_of t)) t) ≡ true
       held_parent t p = go (parent_number (shape_at (logs w) (pair_of t)) t.part == 0) refl where
         n : ℕ

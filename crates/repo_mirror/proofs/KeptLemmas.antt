@@ -1,4 +1,4 @@
--- What holds of each packet that a mirror stores, once it took what came of a fetch.
+-- What holds of each packet that a mirror stores, once it took the results of a fetch.
 use Rattle.std.proofs.Common.{◌≡◌, ◌⊎◌, inl, inr, ℕ, Bool, true, false, cond, List, [], ◌∷◌, Option, Some}
 use Rattle.std.proofs.Common.{None, option_map, unwrap_or, refl, sym, ap, subst}
 use Rattle.std.specs.Prelude.{IfSome}
@@ -24,7 +24,7 @@ use Rattle.repo_mirror.specs.Passing.{is_packet_for, is_fetch_for, fetches_for}
 use Rattle.repo_mirror.specs.PacketsFor.{PassedFor, IsCheckedFetch, IsPacketFor, ArePacketsFor}
 use Rattle.repo_mirror.specs.MirrorOutcomes.{AreFetchedFor}
 
--- ---- what holds of each packet that was stored and of each that came holds of each that is stored then
+-- ---- what holds of each packet that was stored or received holds of each that is stored then
 
 put_or_there : (t : Part) (octets : List ℕ) (es : List Packet) (e : Packet) → In e (with_value part_cmp t octets es)
     → (e ≡ (t, octets)) ⊎ In e es
@@ -69,7 +69,7 @@ kept_came pattern x checked kept = go x.packet checked kept where
   go None h k = tt
   go (Some octets) h k = record { checks = h; kept = k }
 
--- what is kept of what came is stored
+-- each stored packet is one of `IsPacketFor` after the kept results are stored
 pub kept_packets : (pattern : Pattern) (xs : List Fetched) (store : List Packet)
     → All IsCheckedFetch (fetches_for pattern xs) → ArePacketsFor pattern store
     → ArePacketsFor pattern (with_all_fetched (fetches_for pattern xs) store)
@@ -81,7 +81,7 @@ kept_packets pattern xs store checked are =
     kept_came pattern x (in_all IsCheckedFetch kept x checked i) (in_filtered (is_fetch_for pattern) xs x i).1)
     (λ e i. in_all (IsPacketFor pattern) store e are i))
 
--- ---- what came of jobs
+-- ---- the results of jobs
 
 -- the part was wanted, and the packet passed its checks
 pub record CameSo (m : MirrorState) (x : Fetched) : Type 0 where

@@ -21,7 +21,7 @@ pub reading : {A : Type 0} (f : PlanState → A) (m : Inside) (a : MirrorState) 
     → f (held_plan m.held) ≡ f (fetch_plan a)
 reading f m a is view = ap f (plan_is m is) ∙ ap (λ (x : MirrorState). f (fetch_plan x)) view
 
--- as many numbers are known of publications as the vector has
+-- the vector of a mirror's holdings is as long as the mirror's vector
 pub wide_as_vector : (m : Inside) (a : MirrorState) → IsMirror m → mirror_state m ≡ a
     → length m.held.known ≡ length a.known
 wide_as_vector m a is view =

@@ -1,4 +1,4 @@
--- What a mirror plans can be taken, whatever came of it.
+-- What a mirror plans can be taken, whatever its results.
 use Rattle.std.proofs.Common.{◌≡◌, inl, inr, ℕ, true, List, [], ◌∷◌, map, take, not, Option, Some, None, refl, sym, ap}
 use Rattle.std.proofs.Common.{◌∙◌, subst, arith}
 use Rattle.std.specs.Prelude.{IfSome}
@@ -49,7 +49,7 @@ module _ (publishers : List (List Component)) (group : List Component) (m : Mirr
         all_fetched ts (λ u i. each u (inr i)) parts ns were.2,
       )
 
-  -- what came of jobs of different wanted parts is an outcome
+  -- the results of jobs of different wanted parts are an outcome
   are_outcomes : (ts : List Part) → PartsDiffer ts → ((t : Part) → In t ts → is_wanted (fetch_plan m) t ≡ true)
       → (parts : List (Option CheckedPart)) (ns : List ℕ) → WereTriedFor (map job_of ts) parts ns
       → IsMirrorOutcome m (map job_of ts) parts ns
@@ -77,7 +77,7 @@ planned_jobs_are_outcomes publishers group m after most jobs parts attempts plan
     (are_outcomes publishers group m ts differ each parts attempts
     (subst (λ (js : List Job). WereTriedFor js parts attempts) planned were))
 
--- ---- the same jobs, as those of who holds what the mirror holds
+-- ---- the same jobs, as those of a holder with the mirror's holdings
 
 pub mirrors_plan_jobs : MirrorsPlanJobs
 mirrors_plan_jobs g m after most =

@@ -72,7 +72,7 @@ asked_so m t r asked =
       go None e h = inl (eqb-true t.part 0 h)
       go (Some octets) e h = inr e
 
--- ---- what came of a fetch is taken
+-- ---- the results of a fetch are taken
 
 rises_fetched : (xs : List Fetched) (es : List Packet) → Rises part_cmp (keys es)
     → Rises part_cmp (keys (with_all_fetched xs es))

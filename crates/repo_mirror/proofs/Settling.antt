@@ -123,7 +123,7 @@ module _ (pattern : Pattern) (ls : Logs) (members : List Member) (m new : Mirror
             absurd (true≢false (sym (and_parts (t.part == 0) (contains pair_cmp new.passed (pair_of t)) p).0 ∙ s))
       ]
 
-  -- such a part is wanted where the part that lists it is held
+  -- a part after the record that `new` holds is wanted where the part that lists it is held
   part_wanted : (t : Part) → (t.part == 0) ≡ false → mirror_holds new t ≡ true → (a : Mirror) → a.known ≡ m.known
       → mirror_holds a (parent (shape_at ls (pair_of t)) t) ≡ true → mirror_holds a t ≡ false
       → IsWantedByMirror pattern ls a t
@@ -143,7 +143,7 @@ module _ (pattern : Pattern) (ls : Logs) (members : List Member) (m new : Mirror
         not_held = free;
       }
 
-  -- a part comes after those that aren't held before it
+  -- a part that isn't held isn't held after another one is gained, either
   still_free : (r t : Part) (x : Mirror) (gained : GainsPart pattern ls r x) → (r.part == t.part) ≡ false
       → mirror_holds x t ≡ false → mirror_holds (mirror_gains pattern ls r x) t ≡ false
   still_free r t x gained other free =

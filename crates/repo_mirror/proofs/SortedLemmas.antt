@@ -1,4 +1,4 @@
--- What came of a fetch, sorted into what is kept and what is passed over.
+-- The results of a fetch, sorted into what is kept and what is passed over.
 use Rattle.std.proofs.Common.{◌≡◌, inl, inr, ℕ, Bool, true, false, cond, not, ◌||◌, List, [], ◌∷◌, ◌++◌, map}
 use Rattle.std.proofs.Common.{refl, sym, ap, ◌∙◌, subst, Option, Some, None, option_map, unwrap_or}
 use Rattle.std.specs.Prelude.{◌==◌}

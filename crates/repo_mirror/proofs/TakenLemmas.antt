@@ -7,7 +7,7 @@ use Rattle.repo_plan.proofs.Orders.{exact_pairs}
 use Rattle.sorted_lists.proofs.Sets.{contains-insert_key}
 use Rattle.repo_holdings.specs.Hiding.{with_hidden}
 
--- what is hidden after these were too
+-- what is hidden after `pairs` were hidden too
 pub hidden_is : (pairs hidden : List Pair) (q : Pair)
     → contains pair_cmp (with_hidden pairs hidden) q ≡ (contains pair_cmp pairs q || contains pair_cmp hidden q)
 hidden_is [] hidden q = refl

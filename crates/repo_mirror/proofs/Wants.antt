@@ -66,7 +66,7 @@ module _ (pattern : Pattern) (ls : Logs) (m : Mirror) (sound : IsSoundMirror pat
       false_from_ne_true (contains pair_cmp m.passed pair)
       (λ h. true≢false (sym a ∙ (sound.passed pair h).not_accepted))
 
-  -- what is held of it is kept
+  -- a held part of a publication that the pattern is for is kept
   pub held_kept : (t : Part) → is_for pattern ls (pair_of t) ≡ true → mirror_holds m t ≡ true
       → contains part_cmp m.kept t ≡ true
   held_kept t a h =

@@ -1,5 +1,4 @@
--- A mirror by itself and the same mirror as its group has it, and what holds where its packets are those of their
--- parts.
+-- A mirror by itself and the same mirror as its group has it, and what holds where its packets were published.
 use Rattle.std.specs.Prelude.{◌≡◌, ℕ, true, ◌||◌, List, length, ◌↔◌}
 use Rattle.std.specs.List.{All}
 use Rattle.svs_vector.specs.Vectors.{join}
@@ -25,7 +24,7 @@ abbrev pub mirror_in_group : MirrorState → Mirror
 mirror_in_group m = record { known = m.known; kept = keys m.store; passed = m.passed; attempts = m.attempts }
 
 -- The mirror's vector reports no publication that there isn't, what it keeps and passed over is what its pattern says,
--- and each stored packet is that of its part.
+-- and each stored packet is the one that the publisher of its part made.
 pub record IsConsistentMirror (g : GroupKeys) (logs : Logs) (m : MirrorState) : Type 0 where
   pub vector : IsConsistentVector logs m.known
   pub sound : IsSoundMirror m.pattern logs (mirror_in_group m)
@@ -38,46 +37,48 @@ abbrev pub MirrorsPlanAlike : Type 0
 MirrorsPlanAlike = (g : GroupKeys) (logs : Logs) (m : MirrorState) → AreLogs g logs → IsConsistentMirror g logs m
     → fetch_plan m ≡ mirror_plan m.pattern logs (mirror_in_group m)
 
--- So it wants just what a mirror is to want.
+-- A consistent mirror wants just what a mirror with its pattern is to want.
 abbrev pub MirrorsWantAlike : Type 0
 MirrorsWantAlike = (g : GroupKeys) (logs : Logs) (m : MirrorState) (t : Part) → AreLogs g logs
     → IsConsistentMirror g logs m
     → (is_wanted (fetch_plan m) t ≡ true) ↔ IsWantedByMirror m.pattern logs (mirror_in_group m) t
 
--- Its catalogue, which reads the stored packets, is the group's catalogue of that mirror.
+-- The catalogue of a consistent mirror, which reads the stored packets, is the group's catalogue of that mirror.
 abbrev pub MirrorsListAlike : Type 0
 MirrorsListAlike = (g : GroupKeys) (logs : Logs) (m : MirrorState) → AreLogs g logs → IsConsistentMirror g logs m
     → member_catalogue m.store ≡ mirror_catalogue m.pattern logs (mirror_in_group m)
 
--- What holds of whoever holds parts holds of it.
+-- A consistent mirror is a consistent holder.
 abbrev pub MirrorsAreHolders : Type 0
 MirrorsAreHolders = (g : GroupKeys) (logs : Logs) (m : MirrorState) → IsConsistentMirror g logs m
     → IsConsistentHolder g logs (mirror_holdings m)
 
 -- ---- what lasts
 
--- A mirror begins so.
+-- A new mirror is consistent.
 abbrev pub MirrorsBeginConsistent : Type 0
 MirrorsBeginConsistent =
     (g : GroupKeys) (logs : Logs) (pattern : Pattern) → IsConsistentMirror g logs (initial_mirror pattern (length logs))
 
--- It stays so where it hears a vector that reports no publication that there isn't.
+-- A consistent mirror stays consistent when it takes a vector that reports no publication that there isn't.
 abbrev pub MirrorsLearnConsistent : Type 0
 MirrorsLearnConsistent = (g : GroupKeys) (logs : Logs) (m : MirrorState) (received : List ℕ)
     → IsConsistentVector logs received
     → IsConsistentMirror g logs m → IsConsistentMirror g logs (record m { known = join m.known received })
 
--- Others may publish more.
+-- A consistent mirror stays consistent when members publish more.
 abbrev pub MirrorsGrowConsistent : Type 0
 MirrorsGrowConsistent = (g : GroupKeys) (logs later : Logs) (m : MirrorState) → GrowInto logs later
     → length later ≡ length logs → IsConsistentMirror g logs m → IsConsistentMirror g later m
 
--- The outcome of a fetch may be taken, of wanted parts, where each packet that came is that of its part.
+-- The result of a fetch of one part: the mirror wants the part, and a packet that was received is the published one of
+-- it.
 pub record FetchForMirror (g : GroupKeys) (logs : Logs) (m : MirrorState) (x : Fetched) : Type 0 where
   pub part_wanted : is_wanted (fetch_plan m) x.part ≡ true
   pub consistent : IsConsistentFetch g logs x.part x.packet
 
--- Then just the parts that came are held too: records of objects that the pattern doesn't accept by passing them over.
+-- A mirror that takes `xs` stays consistent, and holds just the parts that were received too. Records of objects that
+-- the pattern doesn't accept are held by passing them over.
 pub record TakesConsistently (g : GroupKeys) (logs : Logs) (xs : List Fetched) (m : MirrorState) : Type 0 where
   pub stays : IsConsistentMirror g logs (mirror_takes xs m)
   pub held : (u : Part) → mirror_holds (mirror_in_group (mirror_takes xs m)) u

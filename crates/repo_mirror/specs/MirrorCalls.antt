@@ -15,8 +15,8 @@ use Rattle.repo_mirror.specs.MirrorState.{MirrorState, initial_mirror}
 use Rattle.repo_mirror.specs.Passing.{mirror_takes}
 use Rattle.repo_mirror.specs.MirrorOutcomes.{IsMirrorOutcome}
 
--- A call that may change a mirror, with what it is given: a vector, or the result of a fetch. One that is out of memory
--- changes nothing, so it is in no list.
+-- A call that may change a mirror, with its arguments: a vector, or the result of a fetch. A call that runs out of
+-- memory changes nothing, so it stands in no list.
 pub data MirrorCall : Type 0 where
   Learn : List ℕ → MirrorCall
   TakeOutcome : List Job → List (Option CheckedPart) → List ℕ → MirrorCall
@@ -37,13 +37,13 @@ IsAllowedMirrorCall m (Learn received) = length received ≡ length m.known
 IsAllowedMirrorCall m (TakeOutcome jobs parts attempts) =
     IsMirrorOutcome m jobs parts attempts × All (λ part. IfSome part IsChecked) parts
 
--- Each call's conditions hold when its turn comes.
+-- The conditions of each call of a list hold of the mirror as it is then.
 abbrev pub AreAllowedMirrorCalls : MirrorState → List MirrorCall → Type 0
 AreAllowedMirrorCalls m [] = Unit {0}
 AreAllowedMirrorCalls m (call ∷ calls) =
     IsAllowedMirrorCall m call × AreAllowedMirrorCalls (after_mirror_call call m) calls
 
--- It holds of every mirror, from its beginning on and after any calls.
+-- `P` holds of every mirror, from its beginning on and after any calls.
 abbrev pub InEveryMirror : (MirrorState → Type 0) → Type 0
 InEveryMirror P = (pattern : Pattern) (members : ℕ) (calls : List MirrorCall) →
     let begun = initial_mirror pattern members in
@@ -51,11 +51,11 @@ InEveryMirror P = (pattern : Pattern) (members : ℕ) (calls : List MirrorCall) 
 
 -- ---- what holds of every mirror
 
--- It lists only objects that its pattern accepts.
+-- The mirror lists only objects that its pattern accepts.
 abbrev pub ListsAccepted : MirrorState → Type 0
 ListsAccepted m = All (λ e. is_entry_accepted m.pattern e ≡ true) (member_catalogue m.store)
 
--- It stores nothing of a publication that it passed over.
+-- The mirror stores nothing of a publication that it passed over.
 abbrev pub PassedIsGone : MirrorState → Type 0
 PassedIsGone m = (t : Part) → contains pair_cmp m.passed (pair_of t) ≡ true → value_of part_cmp m.store t ≡ None
 
@@ -71,13 +71,13 @@ abbrev pub PassedStays : Type 0
 PassedStays = (calls : List MirrorCall) (m : MirrorState) (pair : Pair) → contains pair_cmp m.passed pair ≡ true
     → contains pair_cmp (after_mirror_calls calls m).passed pair ≡ true
 
--- The vectors that it heard in calls, in order.
+-- The vectors that the mirror received in a list of calls, in order.
 abbrev pub vectors_learnt : List MirrorCall → List (List ℕ)
 vectors_learnt [] = []
 vectors_learnt (Learn received ∷ calls) = received ∷ vectors_learnt calls
 vectors_learnt (TakeOutcome jobs parts attempts ∷ calls) = vectors_learnt calls
 
--- It knows the join of what it knew and of what it heard.
+-- After calls the mirror's vector is the join of the one before and of those that it received.
 abbrev pub KnowsTheJoin : Type 0
 KnowsTheJoin = (calls : List MirrorCall) (m : MirrorState)
     → (after_mirror_calls calls m).known ≡ join_all (m.known ∷ vectors_learnt calls)

@@ -6,7 +6,7 @@ use Rattle.repo_mirror.specs.MirrorState.{MirrorState}
 use Rattle.repo_mirror.specs.Asked.{asked_numbers}
 use Rattle.repo_mirror.specs.PacketsFor.{ArePacketsFor}
 
--- What the fields say.
+-- What a mirror's fields say.
 abbrev pub mirror_state : Inside → MirrorState
 mirror_state m = record {
   pattern = m.pattern;
@@ -16,8 +16,8 @@ mirror_state m = record {
   attempts = m.held.attempts;
 }
 
--- There are at most 16 members; of publications the numbers of the publishers that are asked are known, and nothing is
--- claimed; and each stored packet passed its checks and is none that is passed over.
+-- What holds of a mirror's fields: its vector has at most 16 numbers, its holdings have those of the publishers that
+-- are asked and no claims, and each stored packet passed its checks and is none that is passed over.
 pub record IsMirror (m : Inside) : Type 0 where
   pub few : length m.vector ≤ 16
   pub known : m.held.known ≡ asked_numbers m.pattern.publisher 0 m.vector

@@ -11,12 +11,12 @@ use Rattle.repo_mirror.specs.Asked.{asked_numbers}
 -- A mirror by itself: its pattern, what it knows of and holds, and how often it tried parts.
 pub record MirrorState : Type 0 where
   pub pattern : Pattern
-  pub known : List ℕ  -- its vector: one number a member
+  pub known : List ℕ  -- its vector: a SeqNo for each member
   pub store : List Packet  -- the packet of each part that it keeps, in order of the parts
-  pub passed : List Pair  -- the publications whose record came and whose object its pattern doesn't accept, in order
+  pub passed : List Pair  -- publications it got the record of, whose object its pattern refuses, in order
   pub attempts : List (Part × ℕ)  -- of the parts that it didn't pass over, in order, without 0
 
--- A mirror of a group of so many members, which knows of nothing.
+-- A mirror of a group of `members` members, which knows of nothing.
 abbrev pub initial_mirror : Pattern → ℕ → MirrorState
 initial_mirror pattern members = record {
   pattern = pattern;
@@ -26,8 +26,8 @@ initial_mirror pattern members = record {
   attempts = [];
 }
 
--- What it has of publications: it knows those of the publishers that it asks, hides what it passed over, and claims
--- nothing.
+-- What the mirror has of publications: it knows those of the publishers that it asks, hides those that it passed over,
+-- and claims nothing.
 abbrev pub mirror_holdings : MirrorState → HoldingsState
 mirror_holdings m = record {
   known = asked_numbers m.pattern.publisher 0 m.known;
@@ -38,6 +38,6 @@ mirror_holdings m = record {
   spare = 0;
 }
 
--- Its fetch plan. What it wants is read there.
+-- The mirror's fetch plan. The wanted parts are read there.
 abbrev pub fetch_plan : MirrorState → PlanState
 fetch_plan m = held_plan (mirror_holdings m)

@@ -18,12 +18,12 @@ use Rattle.repo_mirror.specs.Asked.{asked_numbers, is_for}
 
 -- What a mirror has, besides its pattern.
 pub record Mirror : Type 0 where
-  pub known : List ℕ  -- its vector: one number a member
+  pub known : List ℕ  -- its vector: a SeqNo for each member
   pub kept : List Part  -- the parts that it keeps, in order: of objects that its pattern accepts, and withdrawals
-  pub passed : List Pair  -- the publications whose record came and whose object its pattern doesn't accept, in order
+  pub passed : List Pair  -- publications it got the record of, whose object its pattern refuses, in order
   pub attempts : List (Part × ℕ)  -- in order, without 0
 
--- It holds what it keeps, and the records that it passed over.
+-- The mirror holds the parts that it keeps, and the records that it passed over.
 abbrev pub mirror_holds : Mirror → Part → Bool
 mirror_holds m t = contains part_cmp m.kept t || (t.part == 0 && contains pair_cmp m.passed (pair_of t))
 
@@ -38,7 +38,8 @@ module _ (pattern : Pattern) where
     pub with_parent : mirror_holds m (parent (shape_at logs (pair_of t)) t) ≡ true
     pub accepted : is_for pattern logs (pair_of t) ≡ true
 
-  -- A record, or such a part, of a known publication of a publisher that is asked, and that isn't held.
+  -- A part that the mirror wants: a record, or a part of `IsPartAskedFor`. It is of a known publication of a publisher
+  -- that is asked, and it isn't held.
   pub record IsWantedByMirror (logs : Logs) (m : Mirror) (t : Part) : Type 0 where
     pub known : IsKnown m.known (pair_of t)
     pub publisher : is_publisher pattern.publisher t.publisher ≡ true
@@ -62,8 +63,8 @@ module _ (pattern : Pattern) where
 
   -- ---- what holds of every mirror
 
-  -- A part that it keeps is one of a known publication that is asked for. With it, it keeps the record and the part
-  -- that lists it.
+  -- A part that the mirror keeps is one of a known publication of a publisher that is asked, and the pattern is for
+  -- that publication. The mirror keeps the record too, and the part that lists it.
   pub record IsKeptSoundly (logs : Logs) (m : Mirror) (t : Part) : Type 0 where
     pub known : IsKnown m.known (pair_of t)
     pub publisher : is_publisher pattern.publisher t.publisher ≡ true
@@ -72,33 +73,33 @@ module _ (pattern : Pattern) where
     pub with_parent : contains part_cmp m.kept (parent (shape_at logs (pair_of t)) t) ≡ true
     pub accepted : is_for pattern logs (pair_of t) ≡ true
 
-  -- A publication that it passed over is a known one of a publisher that is asked, and an object that the pattern isn't
-  -- for.
+  -- A publication that the mirror passed over is a known one of a publisher that is asked, and an object that the
+  -- pattern isn't for.
   pub record IsPassedSoundly (logs : Logs) (m : Mirror) (pair : Pair) : Type 0 where
     pub known : IsKnown m.known pair
     pub publisher : is_publisher pattern.publisher pair.0 ≡ true
     pub not_accepted : is_for pattern logs pair ≡ false
 
-  -- Both hold of all that the mirror keeps and has passed over.
+  -- A mirror is sound if it keeps each of its parts soundly, and passed over each of its publications soundly.
   pub record IsSoundMirror (logs : Logs) (m : Mirror) : Type 0 where
     pub kept : (t : Part) → contains part_cmp m.kept t ≡ true → IsKeptSoundly logs m t
     pub passed : (pair : Pair) → contains pair_cmp m.passed pair ≡ true → IsPassedSoundly logs m pair
 
   -- ---- a part that it receives: the record of an object that the pattern doesn't accept is passed over
 
-  -- The mirror after a part came.
+  -- The mirror after it received a part.
   abbrev pub mirror_gains : Logs → Part → Mirror → Mirror
   mirror_gains logs t m =
       if is_for pattern logs (pair_of t)
       then record m { kept = insert_key part_cmp t m.kept }
       else record m { passed = insert_key pair_cmp (pair_of t) m.passed }
 
-  -- The mirror after these parts came, one after another.
+  -- The mirror after it received the parts of a list, one after another.
   abbrev pub mirror_gains_all : Logs → List Part → Mirror → Mirror
   mirror_gains_all logs [] m = m
   mirror_gains_all logs (t ∷ ts) m = mirror_gains_all logs ts (mirror_gains logs t m)
 
-  -- Each part is wanted once those before it are held, and held by someone.
+  -- Each part of a list is wanted once those before it are held, and is held by someone.
   abbrev pub ComeInTurn : Logs → List Member → List Part → Mirror → Type 0
   ComeInTurn logs members [] m = Unit {0}
   ComeInTurn logs members (t ∷ ts) m =
@@ -115,13 +116,13 @@ module _ (pattern : Pattern) where
   abbrev pub is_object_accepted : Publication → Bool
   is_object_accepted p = is_object p && accepts pattern p.publisher (object_in p).name
 
-  -- Such an object of which it holds every part, and no withdrawal.
+  -- An object that the pattern accepts, of which the mirror holds every part and no withdrawal.
   abbrev pub is_listed_by_mirror : List Publication → Mirror → Publication → Bool
   is_listed_by_mirror publications m p =
       is_object_accepted p
       && (list_all (mirror_holds m) (parts_in p) && not (mirror_knows_withdrawn publications m (pair_in p)))
 
-  -- Those, in order.
+  -- The mirror's catalogue: an entry for each object that it lists, in order.
   abbrev pub mirror_catalogue : Logs → Mirror → List Entry
   mirror_catalogue logs m = map published_entry (filter (is_listed_by_mirror (published logs) m) (published logs))
 
@@ -133,8 +134,8 @@ module _ (pattern : Pattern) where
 abbrev pub unless_held : Mirror → Part → List Part
 unless_held m t = if mirror_holds m t then [] else t ∷ []
 
--- What comes for a part that is held in the end and wasn't: before it its record, and the index packet that lists it,
--- if they weren't held either.
+-- The parts that a mirror gains until it holds the part `t`: its record and the index packet that lists it, unless they
+-- were held before, and then `t`.
 abbrev pub path_to : Logs → Mirror → Part → List Part
 path_to logs m t =
     if t.part == 0 then t ∷ []

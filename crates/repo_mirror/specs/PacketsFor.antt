@@ -15,7 +15,7 @@ pub record PassedFor (t : Part) (octets : List ℕ) : Type 0 where
   pub same : checked.octets ≡ octets
   pub passed : IsChecked checked
 
--- So did the packet that came for a part, if one came.
+-- If a packet was received for a part, it passed every check for a want of that part.
 abbrev pub IsCheckedFetch : Fetched → Type 0
 IsCheckedFetch x = IfSome x.packet (PassedFor x.part)
 
@@ -24,6 +24,6 @@ pub record IsPacketFor (pattern : Pattern) (packet : Packet) : Type 0 where
   pub checks : PassedFor packet.0 packet.1
   pub kept : is_packet_for pattern packet.0 packet.1 ≡ true
 
--- Each stored packet is such a one.
+-- Each stored packet is one of `IsPacketFor`.
 abbrev pub ArePacketsFor : Pattern → List Packet → Type 0
 ArePacketsFor pattern store = All (IsPacketFor pattern) store

@@ -16,33 +16,35 @@ use Rattle.repo_watch.specs.declared.pattern.Pattern.{Pattern}
 use Rattle.repo_watch.specs.Patterns.{accepts}
 use Rattle.repo_mirror.specs.MirrorState.{MirrorState}
 
--- A packet of that publisher is kept, unless it is the record of an object that the pattern doesn't accept.
+-- A packet of the publisher `p` is kept, unless it is the record of an object that the pattern doesn't accept.
 abbrev pub is_summary_for : Pattern → ℕ → Option RecordSummary → Bool
 is_summary_for pattern p None = true
 is_summary_for pattern p (Some (Object shape name)) = accepts pattern p name
 is_summary_for pattern p (Some (Withdrawal seq)) = true
 
--- So is a packet that was fetched for a part, by what it says.
+-- A packet that was received for the part `t` is kept, unless it is the record of an object that the pattern doesn't
+-- accept.
 abbrev pub is_packet_for : Pattern → Part → List ℕ → Bool
 is_packet_for pattern t octets = is_summary_for pattern t.publisher (summary_in t octets)
 
--- The result of a part is kept: such a packet, or none.
+-- The result for a part is kept, unless it is the record of an object that the pattern doesn't accept.
 abbrev pub is_fetch_for : Pattern → Fetched → Bool
 is_fetch_for pattern x = unwrap_or (option_map (is_packet_for pattern x.part) x.packet) true
 
--- What is kept of all that came.
+-- The results of a fetch that are kept.
 abbrev pub fetches_for : Pattern → List Fetched → List Fetched
 fetches_for pattern xs = filter (is_fetch_for pattern) xs
 
--- The publications whose records came and aren't kept.
+-- The publications whose records were received and aren't kept.
 abbrev pub not_kept : Pattern → List Fetched → List Pair
 not_kept pattern xs = map (λ x. pair_of x.part) (filter (λ x. not (is_fetch_for pattern x)) xs)
 
--- The same in order.
+-- The publications whose records were received and aren't kept, in order, each once.
 abbrev pub passed_over : Pattern → List Fetched → List Pair
 passed_over pattern xs = insert_keys pair_cmp (not_kept pattern xs) []
 
--- They are hidden. What is kept is held, and its attempts count.
+-- The mirror after a fetch: it passed over the publications whose records aren't kept, stores the packets that are
+-- kept, and counts the attempts of the kept results.
 abbrev pub mirror_takes : List Fetched → MirrorState → MirrorState
 mirror_takes xs m = record m {
   store = with_all_fetched (fetches_for m.pattern xs) m.store;
@@ -55,7 +57,7 @@ pub record IsUnknownIn (plan : PlanState) (pair : Pair) : Type 0 where
   pub none_held : (t : Part) → pair_of t ≡ pair → holds plan t ≡ false
   pub record_alone : (t : Part) → pair_of t ≡ pair → may_be_asked_for plan t ≡ true → t.part ≡ 0
 
--- The publications that are passed over are so unknown, and none of what is kept is a part of one.
+-- The plan holds no part of a publication that is passed over, and no result that is kept is for a part of one.
 pub record ArePassedOver (plan : PlanState) (kept : List Tried) (passed : List Pair) : Type 0 where
   pub unknown : (pair : Pair) → contains pair_cmp passed pair ≡ true → IsUnknownIn plan pair
   pub others : All (λ x. contains pair_cmp passed (pair_of x.part) ≡ false) kept

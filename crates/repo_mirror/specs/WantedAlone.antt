@@ -21,13 +21,14 @@ pub record IsPartListed (m : MirrorState) (t : Part) : Type 0 where
   pub with_parent : mirror_holds (mirror_in_group m) (parent (listed_shape listing) t) ≡ true
   pub accepted : accepts m.pattern t.publisher listing.name ≡ true
 
--- A record, or such a part, of a known publication of a publisher that is asked, and that isn't held.
+-- A part that the mirror wants: a record, or a part of `IsPartListed`. It is of a known publication of a publisher that
+-- is asked, and it isn't held.
 pub record IsWantedAlone (m : MirrorState) (t : Part) : Type 0 where
   pub known : IsKnown m.known (pair_of t)
   pub publisher : is_publisher m.pattern.publisher t.publisher ≡ true
   pub part : (t.part ≡ 0) ⊎ IsPartListed m t
   pub not_held : mirror_holds (mirror_in_group m) t ≡ false
 
--- The mirror's fetch plan wants just those parts.
+-- The mirror's fetch plan wants just the parts of `IsWantedAlone`.
 abbrev pub WantsThose : MirrorState → Type 0
 WantsThose m = (t : Part) → (is_wanted (fetch_plan m) t ≡ true) ↔ IsWantedAlone m t

@@ -8,7 +8,7 @@ pub fn mirrors_want_those()
     ensures { MirrorsWantThose }
 {}
 
-/// A wanted part that comes is held from then on, and the mirror stays sound.
+/// A sound mirror that receives a wanted part holds it from then on, and stays sound.
 pub fn mirrors_gain_what_comes()
     ensures { MirrorsGain }
 {}
@@ -18,14 +18,14 @@ pub fn mirrors_list_what_is_accepted()
     ensures { MirrorsList }
 {}
 
-/// A mirror that took one wanted part after another, until nobody held what it wants, holds exactly what it held and
-/// what can come so.
+/// A mirror that takes one wanted part after another, until nobody holds what it wants, holds in the end every part
+/// that it could take so, in whatever order.
 pub fn settled_mirrors_hold_what_comes()
     ensures { SettledHoldThose }
 {}
 
-/// A mirror that gathers in a settle gains only what can come, in whatever order and rounds it comes, and in the end
-/// all of it.
+/// A mirror that gathers in a settle gains only parts that it can take one after another, as it comes to want them, in
+/// whatever order and rounds, and in the end all of them.
 pub fn gathering_gains_those()
     ensures { GatheringGainsThose }
 {}

@@ -7,7 +7,7 @@ ghost use Rattle.repo_mirror.specs.Asked.{asked_numbers};
 use repo_holdings::Holdings;
 use svs_vector::Vector;
 
-// What a received vector has is known from now on, and what it has of the publishers that are asked is wanted.
+// Joins `received` to the mirror's vector. Its holdings have the numbers of the publishers that are asked.
 pub(crate) fn learn(asked: Option<u32>, vector: &mut Vector, held: &mut Holdings, received: &Vector)
     requires width { length received.now ≡ length vector.old }
     requires few { length received.now ≤ 16 }

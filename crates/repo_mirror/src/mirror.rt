@@ -25,12 +25,12 @@ use std::alloc::{AllocError, Global};
 use std::marker::Model;
 use svs_vector::{Roster, Vector};
 
-/// A mirror: a pattern, the numbers that it knows of, and what it holds of what its pattern accepts.
+/// A mirror: its pattern, its vector, and what it holds of what its pattern accepts.
 ///
 /// A record whose object its pattern isn't for is passed over: its packet isn't kept, and no part of that publication
 /// is wanted any more. The records of withdrawals are kept, since they take objects out of the catalogue.
 ///
-/// A call that is refused has changed nothing, running out of memory included.
+/// A call that is refused, or that runs out of memory, has changed nothing.
 pub struct Mirror {
     alloc: Global,
     pattern: Pattern,
@@ -38,7 +38,7 @@ pub struct Mirror {
     held: Holdings,
 }
 
-// A mirror is dropped by one call, which is proved once, and not field by field wherever one is left.
+// A mirror is dropped by one call, which is proved once, and not field by field wherever one goes out of scope.
 impl Drop for Mirror {
     fn drop(self) {
         let Mirror {
@@ -50,7 +50,7 @@ impl Drop for Mirror {
     }
 }
 
-// A mirror is seen as what it has. What it wants and what it lists follow from that.
+// Contracts see a mirror as its `MirrorState`. What it wants and what it lists follow from that.
 impl Model for Mirror {
     ghost use Rattle.repo_mirror.specs.MirrorState.{MirrorState};
 
@@ -64,7 +64,7 @@ impl Model for Mirror {
 }
 
 impl Mirror {
-    /// A mirror of a group of so many members, which knows of nothing.
+    /// A mirror of a group of `members` members, which knows of nothing.
     pub fn new(alloc: Global, members: usize, pattern: Pattern) -> Result<Mirror, AllocError>
         requires { members ≤ 16 }
         ensures { IfOk result (λ mirror. mirror ≡ initial_mirror pattern members) }
@@ -77,7 +77,7 @@ impl Mirror {
         })
     }
 
-    /// The numbers of the vector are known from now on. It allocates nothing.
+    /// Joins `received` to the mirror's vector. It allocates nothing.
     pub fn learn(&mut self, received: &Vector)
         requires { length received.now ≡ length self.old.known }
         ensures { self.new ≡ record self.old { known = join self.old.known received.now } }
@@ -90,8 +90,8 @@ impl Mirror {
         );
     }
 
-    /// The least wanted parts that are greater than `after`, at most `most` of them, as jobs whose attempts go on from
-    /// those that were made. `group` is the name of the group of the publishers.
+    /// The jobs of the least wanted parts that are greater than `after`, at most `most` of them. Their attempts go on
+    /// from those that were made. `group` is the name of the group of the publishers.
     pub fn plan(
         &self,
         alloc: Global,
@@ -108,7 +108,8 @@ impl Mirror {
         self.held.jobs(alloc, publishers, group, after, most)
     }
 
-    /// Such jobs of those parts that one of the others holds. Takes no look-up for a part that none of them holds.
+    /// The jobs of the least wanted parts that one of `others` holds and that are greater than `after`, at most `most`
+    /// of them. Takes no look-up for a part that none of `others` holds.
     pub fn plan_held<H: HasParts>(
         &self,
         alloc: Global,
@@ -127,7 +128,7 @@ impl Mirror {
             .held_jobs(alloc, publishers, group, others, after, most)
     }
 
-    /// The numbers of publications that the mirror knows of.
+    /// The mirror's vector.
     pub fn vector(&self) -> &Vector
         ensures { result.now ≡ self.now.known }
     {

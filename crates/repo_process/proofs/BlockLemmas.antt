@@ -19,7 +19,7 @@ use Rattle.repo_process.specs.Fields.{blocks_from}
 use Rattle.repo_process.proofs.Numbered.{later}
 use Rattle.repo_process.proofs.Numbers.{same_key, key_below, key_above, here, next}
 
--- a content that has come
+-- the content of a block, where it isn't empty
 abbrev pub come : List ℕ → Option (List ℕ)
 come [] = None
 come (x ∷ xs) = Some (x ∷ xs)
@@ -125,15 +125,15 @@ without_block_at first (suc j) ((x ∷ xs) ∷ cs) within =
     (without_block_at (first + 1) j cs (omega arith) ∙ ap (λ (n : ℕ). filter (but n) rest) (sym (next first j)))
     ∙ sym (keeps (first + suc j) first (x ∷ xs) rest (omega arith))
 
--- ---- blocks that have come, counted
+-- ---- blocks that were received, counted
 
--- how many contents have not come
+-- how many contents are empty
 abbrev pub missing_in : List (List ℕ) → ℕ
 missing_in [] = 0
 missing_in ([] ∷ cs) = suc (missing_in cs)
 missing_in ((x ∷ xs) ∷ cs) = missing_in cs
 
--- a test of indexes that tells which contents have come
+-- a test of indexes that is true exactly where the content isn't empty
 abbrev Tells : (ℕ → Bool) → ℕ → List (List ℕ) → Type 0
 Tells g first cs = (j : ℕ) → j < length cs → g (first + j) ≡ is_some (come (get_or cs j []))
 

@@ -106,13 +106,13 @@ module _ (m : Inside) (i : Insertions) (are : ProcessesAreNumbered m) (view : in
       (slice_get-numbered first k m.insertions.items ∙ ap (option_map (λ (p : Process). (first + k, p))) one.1)
       ∙ ap (λ (n : ℕ). Some n) at
 
-  -- the processes with another in a place
+  -- the processes with `p` in the place `place`
   abbrev replaced : ℕ → Process → Insertions
   replaced place p =
       let ps = slice_set m.insertions.items place p in
       record { processes = numbered_from (m.next - length ps) ps; next_process = m.next }
 
-  -- their numbers stay
+  -- the numbers of the processes stay
   numbers_stay : (place : ℕ) (p : Process)
       → replaced place p
       ≡ record { processes = numbered_from first (slice_set m.insertions.items place p); next_process = m.next }
@@ -145,7 +145,7 @@ module _ (m : Inside) (i : Insertions) (are : ProcessesAreNumbered m) (view : in
         (ap (slice_set m.insertions.items place) is ∙ set-get_or m.insertions.items place p)
         ∙ view
 
-    -- what a block makes of them
+    -- the processes after a block
     pub arrival_replaced : (p q : Process) (b : BlockState) → p ≡ get_or m.insertions.items place p → q ≡ arrived p b
         → replaced place q ≡ with_arrival number i b
     arrival_replaced p q Unknown is new = ap (replaced place) new ∙ process_kept p is

@@ -82,11 +82,11 @@ pub starting-contents : (name : List Component) (first last n : ℕ)
 starting-contents name first last n =
     ap (λ (bs : List (ℕ × List ℕ)). record (starting name first last) { blocks = bs }) (sym (no_blocks first n))
 
--- a published one
+-- all blocks of a published process count
 pub present-published : (p : Process) → p.published ≡ true → present p ≡ p.last + 1 - p.first
 present-published p closed = rw closed (length-numbers p.first (p.last + 1 - p.first))
 
--- the object that is lent
+-- the object of an unpublished process that has all blocks
 pub whole_is : (p : Process) (object : NamedContents) → p.published ≡ false → is_whole p ≡ true → object_of p ≡ object
     → whole_object (Some p) ≡ Some object
 whole_is p object unpublished whole same = rw (unpublished, whole, same) refl

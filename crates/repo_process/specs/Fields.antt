@@ -10,7 +10,7 @@ use Rattle.repo_process.specs.Insertions.{Insertions}
 
 -- ---- one process
 
--- The blocks of indexes from one on. Those that are empty have not come.
+-- The blocks with these contents, at the indexes from `index` on. An empty content stands for a missing block.
 abbrev pub blocks_from : ℕ → List (List ℕ) → List (ℕ × List ℕ)
 blocks_from index [] = []
 blocks_from index ([] ∷ contents) = blocks_from (index + 1) contents
@@ -30,7 +30,8 @@ process_of m = record {
   published = m.is_published;
 }
 
--- There is a place for each block, until the object is published.
+-- The invariant of an insertion: it has an object's name and at most 200 blocks, each of at most 8,000 octets. There is
+-- a place for each block until the object is published, and then none.
 pub record IsInsertion (m : insertion.Inside) : Type 0 where
   pub name : IsName m.name
   pub named : IsTrue (is_object_name m.name)
@@ -40,14 +41,14 @@ pub record IsInsertion (m : insertion.Inside) : Type 0 where
   pub emptied : m.is_published ≡ true → m.contents.items ≡ []
   pub contents : All (λ c. length c ≤ 8000) (contents_of m)
 
--- ---- all of them
+-- ---- all processes
 
--- Things under numbers from one on.
+-- The values of a list in order, each under a number, from `number` on.
 abbrev pub numbered_from : {A : Type 0} → ℕ → List A → List (ℕ × A)
 numbered_from number [] = []
 numbered_from number (x ∷ xs) = (number, x) ∷ numbered_from (number + 1) xs
 
--- They have the last numbers that were given.
+-- What contracts see of all processes. The processes have the last numbers that were given.
 abbrev pub insertions_of : processes.Inside → Insertions
 insertions_of m = record {
   processes = numbered_from (m.next - length m.insertions.items) m.insertions.items;

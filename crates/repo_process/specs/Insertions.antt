@@ -11,11 +11,11 @@ pub record Insertions : Type 0 where
   pub processes : List (ℕ × Process)
   pub next_process : ℕ
 
--- Numbers end at 4,294,967,295.
+-- The number that the next process gets, or `None` once the last number, 4,294,967,295, was given.
 abbrev pub next_number : Insertions → Option ℕ
 next_number i = if nat_le i.next_process 4294967295 then Some i.next_process else None
 
--- A process is kept under this number from now on.
+-- The insertions with the process `p` under this number.
 abbrev pub with_process : ℕ → Process → Insertions → Insertions
 with_process number p i = record i { processes = with_value nat_cmp number p i.processes }
 
@@ -24,7 +24,7 @@ abbrev pub starts : List Component → (first last : ℕ) → Insertions → Ins
 starts name first last i =
     record (with_process i.next_process (starting name first last) i) { next_process = i.next_process + 1 }
 
--- The process of a number, if there is one, becomes another.
+-- The insertions with the given process, if there is one, changed by `change` under `number`.
 abbrev pub with_changed : ℕ → (Process → Process) → Insertions → Option Process → Insertions
 with_changed number change i None = i
 with_changed number change i (Some p) = with_process number (change p) i
@@ -33,13 +33,13 @@ with_changed number change i (Some p) = with_process number (change p) i
 abbrev pub changes_process : ℕ → (Process → Process) → Insertions → Insertions
 changes_process number change i = with_changed number change i (value_of nat_cmp i.processes number)
 
--- The insertions after a block, by its state.
+-- The insertions after a block for the process of this number, by what became of the block.
 abbrev pub with_arrival : ℕ → Insertions → BlockState → Insertions
 with_arrival number i Unknown = i
 with_arrival number i Already = i
 with_arrival number i (Waiting p) = with_process number p i
 with_arrival number i (Whole p) = with_process number p i
 
--- A block comes for the process of this number.
+-- A block is received for the process of this number.
 abbrev pub blocks_process : (number index : ℕ) → List ℕ → Insertions → Insertions
 blocks_process number index content i = with_arrival number i (block_state i.processes number index content)

@@ -3,8 +3,8 @@
 pub enum BlockState {
     /// There is no such process, or none of its blocks has that index.
     Unknown,
-    /// So many blocks are still missing.
+    /// The process has the block, and `missing` other blocks are still missing.
     Kept { missing: u64 },
-    /// None is missing, or the object is published already.
+    /// No block is missing, or the object is published already.
     Complete,
 }

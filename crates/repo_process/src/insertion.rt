@@ -15,14 +15,14 @@ use std::alloc::{AllocError, Global};
 use std::marker::Model;
 use std::mem;
 
-/// An object whose blocks come one by one.
+/// An object whose blocks are received one by one.
 #[derive(Debug, Drop)]
 pub(crate) struct Insertion {
     name: Name,
     first: u64,
     last: u64,
-    // The blocks in order of index. One that has not come is empty, as no block is. There are none once the object is
-    // published.
+    // The blocks in order of index. A missing block is empty here, as no block that was received is. There are none
+    // once the object is published.
     contents: Vec<Vec<u8>>,
     is_published: bool,
 }
@@ -61,7 +61,7 @@ impl Insertion {
         })
     }
 
-    /// Takes a block, unless it is there.
+    /// Takes a block, unless there is one of that index already or the object was published.
     pub(crate) fn block(&mut self, index: u64, content: &[u8]) -> Result<BlockState, AllocError>
         requires { IsContent content.now }
         ensures state { IfOk result (λ state. state ≡ answer_of_block (block_in index content.now (Some self.old))) }
@@ -92,7 +92,7 @@ impl Insertion {
         self.contents[(index - self.first) as usize] = Vec::new(alloc);
     }
 
-    /// How many blocks have come, and whether the object was published.
+    /// How many blocks there are, and whether the object was published. Then all of its blocks count.
     pub(crate) fn status(&self) -> (u64, bool)
         ensures present { result.0 ≡ present self.now }
         ensures published { result.1 ≡ self.now.published }
@@ -104,7 +104,7 @@ impl Insertion {
         (blocks - self.missing(), false)
     }
 
-    /// The object's name and its blocks, where all have come and it was not published.
+    /// The object's name and its blocks, if none is missing and it was not published.
     pub(crate) fn whole(&self) -> Option<(&Name, &[Vec<u8>])>
         ensures object { MatchOption result
             (whole_object (Some self.now) ≡ None)
@@ -160,7 +160,7 @@ impl Insertion {
         self.first <= index && index <= self.last
     }
 
-    // How many blocks have not come.
+    // How many blocks are missing.
     fn missing(&self) -> u64
         requires { self.now.published ≡ false }
         ensures count { result ≡ missing self.now }
@@ -169,7 +169,7 @@ impl Insertion {
         count_empty(&self.contents) as u64
     }
 
-    // Keeps a block, unless it is there.
+    // Keeps a block, unless there is one of that index already.
     fn keep(&mut self, index: u64, content: &[u8]) -> Result<(), AllocError>
         requires content { IsContent content.now }
         requires open { self.old.published ≡ false }
@@ -194,7 +194,7 @@ fn count_empty(contents: &[Vec<u8>]) -> usize
     contents.iter().filter(|content| content.is_empty()).count()
 }
 
-// So many blocks that have not come.
+// `count` missing blocks: empty contents.
 fn no_blocks(alloc: Global, count: usize) -> Result<Vec<Vec<u8>>, AllocError>
     ensures { IfOk result (λ blocks. map (λ c. c.items) blocks.items ≡ replicate count []) }
 {

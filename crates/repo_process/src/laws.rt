@@ -5,7 +5,8 @@ ghost use Rattle.sorted_lists.specs.SortedList.{value_of};
 ghost use Rattle.repo_process.specs.Processes.{Process, has_index, has_block, is_whole, present, missing, with_block};
 ghost use Rattle.repo_process.specs.Processes.{without_block, object_of};
 
-/// A process is complete exactly where there is a block for each of its indexes, which is where none is missing.
+/// A process is complete exactly where it holds a block of each of its indexes. If its object wasn't published, that is
+/// exactly where no block is missing.
 pub fn complete_processes_have_all_blocks()
     ensures blocks { (p : Process) → IsTrue (is_whole p)
         ↔ ((index : ℕ) → IsTrue (has_index p index) → IsTrue (has_block p index)) }
@@ -20,7 +21,8 @@ pub fn blocks_are_segments()
         ≡ Some (unwrap_or (value_of nat_cmp p.blocks (p.first + i)) []) }
 {}
 
-/// A block stays as it came, whatever comes for its index later; and one that was taken back has left no trace.
+/// A block stays as it was received, whatever is received for its index later. A process that receives a new block and
+/// takes it back is as it was before.
 pub fn blocks_stay_until_taken_back()
     ensures stays { (p : Process) (index : ℕ) (content : List ℕ) → IsTrue (has_block p index)
         → with_block index content p ≡ p }

@@ -1,5 +1,5 @@
-//! Insertions of objects whose blocks come one by one (repo protocol): each is a process with a number, which is
-//! complete once all of its blocks are there.
+//! Insertions of objects whose blocks are received one by one (repo protocol): each is a process with a number, which
+//! is complete once all of its blocks were received.
 //!
 //! What is promised of it: `docs/promises/repo_process.md`.
 #![tactic(auto)]

@@ -22,13 +22,13 @@ use std::marker::Model;
 /// The insertion processes of a repository, by number.
 #[derive(Debug, Drop)]
 pub struct Processes {
-    // Their numbers are the last ones that were given, one after another.
+    // The processes in order of number. They have the last numbers that were given.
     insertions: Vec<Insertion>,
-    // The number that the next one gets, as long as it is one of 32 bits.
+    // The number that the next process gets, as long as it has at most 32 bits.
     next: u64,
 }
 
-// They are seen as the list of processes by number, beside the number that the next one gets.
+// `Processes` are seen as the list of processes by number, beside the number that the next process gets.
 impl Model for Processes {
     ghost use Rattle.repo_process.specs.Insertions.{Insertions};
 
@@ -80,7 +80,7 @@ impl Processes {
         u32::try_from(self.next).ok()
     }
 
-    /// Takes a block of a process, unless it is there or the object was published.
+    /// Takes a block of a process, unless the process holds one of that index or the object was published.
     pub fn block(
         &mut self,
         process: u32,
@@ -110,7 +110,7 @@ impl Processes {
         }
     }
 
-    /// How many blocks of a process have come, and whether its object was published.
+    /// How many blocks a process holds, and whether its object was published. Then all of its blocks count.
     pub fn status(&self, process: u64) -> Option<(u64, bool)>
         ensures { result
             ≡ option_map (λ p. (present p, p.published)) (value_of nat_cmp self.now.processes process) }
@@ -119,7 +119,7 @@ impl Processes {
         Some(self.insertions[place].status())
     }
 
-    /// The object of a process, where all of its blocks have come and it was not published: a copy.
+    /// A copy of the object of a process, if the process holds all blocks of it and it was not published.
     pub fn object(&self, alloc: Global, process: u32) -> Result<Option<Blocks>, AllocError>
         ensures object { IfOk result
             (λ object. object ≡ whole_object (value_of nat_cmp self.now.processes process)) }
@@ -138,7 +138,8 @@ impl Processes {
         }))
     }
 
-    /// The same, lent. It allocates nothing.
+    /// The name and the blocks of the object of a process, borrowed, not copied, if the process holds all blocks of it
+    /// and it was not published. It allocates nothing.
     pub fn whole(&self, process: u32) -> Option<(&Name, &[Vec<u8>])>
         ensures object { MatchOption result
             (whole_object (value_of nat_cmp self.now.processes process) ≡ None)
@@ -158,7 +159,8 @@ impl Processes {
         let _blocks = self.hand_over(process);
     }
 
-    /// The same, where the blocks are handed over in place of being dropped, in order of index. It allocates nothing.
+    /// The object of a process counts as published, and its blocks are handed over, in order of index. It allocates
+    /// nothing.
     pub fn hand_over(&mut self, process: u32) -> Vec<Vec<u8>>
         requires { IsSome (whole_object (value_of nat_cmp self.old.processes process)) }
         ensures blocks { option_map (λ o. o.contents)
@@ -197,14 +199,14 @@ impl Processes {
         }
     }
 
-    /// Drops all processes. Numbers go on. It allocates nothing.
+    /// Drops all processes. The number that the next process gets stays as it is. It allocates nothing.
     pub fn clear(&mut self)
         ensures { self.new ≡ record self.old { processes = [] } }
     {
         self.insertions.clear();
     }
 
-    // Where the process of that number stands.
+    // The place of the process of that number, if there is one.
     fn place(&self, process: u64) -> Option<usize>
         ensures { MatchOption result
             (value_of nat_cmp self.now.processes process ≡ None)

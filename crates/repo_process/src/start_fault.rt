@@ -14,7 +14,7 @@ pub enum StartFault {
 }
 
 impl StartFault {
-    /// Running out of memory, which is all that a start can meet where there is a number for it.
+    /// The fault as running out of memory: no other is possible where a number is left.
     pub fn only_memory(self) -> AllocError
         requires { self ≡ StartFault.NoMemory }
     {

@@ -25,7 +25,7 @@ IsOfOctets refusal = (refusal ≢ NoMemory) × (refusal ≢ Vector vector.NoMemo
 apart : (refusal : SyncRefusal) → refusal ≢ NoMemory → refusal ≢ Vector vector.NoMemory → IsOfOctets refusal
 apart refusal a b = (a, b)
 
--- What fails is as those say whom it is made of.
+-- Where `r` and `f` fail only with refusals of the octets, so does the one after the other.
 then_err : {A B : Type 0} (r : Result A SyncRefusal) (f : A → Result B SyncRefusal) → IfErr r IsOfOctets
     → ((x : A) → IfErr (f x) IsOfOctets) → IfErr (r >>= f) IsOfOctets
 then_err (Ok x) f h k = k x

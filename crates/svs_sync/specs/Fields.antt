@@ -5,7 +5,7 @@ use Rattle.svs_sync.specs.declared.mode.Mode.TheVariants.{Steady, Suppressed}
 use Rattle.svs_sync.specs.declared.machine.Machine.TheInside.{Inside}
 use Rattle.svs_sync.specs.SyncStates.{SyncState}
 
--- The vector means nothing while the member is Steady.
+-- The join of the vectors heard. While the member is Steady there is none, and `vector` means nothing.
 abbrev pub heard_in : Mode → List ℕ → Option (List ℕ)
 heard_in Steady vector = None
 heard_in Suppressed vector = Some vector

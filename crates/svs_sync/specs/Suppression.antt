@@ -15,21 +15,21 @@ periodic draw = 27000 + draw % 6001
 abbrev pub suppression : ℕ → ℕ
 suppression draw = draw % 201
 
--- What happens to a member. Each comes with the draw that is next, whether it is used or not.
+-- What happens to a member. Each event has the next draw, whether it is used or not.
 pub data SyncEvent : Type 0 where
   published : (now draw : ℕ) → SyncEvent
   heard : (now : ℕ) (received known : List ℕ) (draw : ℕ) → SyncEvent
   fired : (now : ℕ) (known : List ℕ) (draw : ℕ) → SyncEvent
   reset : (now draw : ℕ) → SyncEvent
 
--- A member: nothing where it is Steady, and where it is Suppressed the vectors that were heard since, in order; its
--- deadline; and how many draws it has used.
+-- The sync state of a member: the vectors that were heard since it was last Steady, in order, or `None` where it is
+-- Steady; its deadline; and how many draws it has used.
 pub record SyncMember : Type 0 where
   pub heard : Option (List (List ℕ))
   pub deadline : ℕ
   pub draws : ℕ
 
--- Steady, with a periodic deadline and one draw used.
+-- The member is Steady from now on, with a periodic deadline and one more draw used.
 abbrev pub steady : ℕ → ℕ → SyncMember → SyncMember
 steady now draw m = record { heard = None; deadline = now + periodic draw; draws = m.draws + 1 }
 
@@ -41,13 +41,13 @@ hears now received known draw m None =
     else record { heard = Some (received ∷ []); deadline = now + suppression draw; draws = m.draws + 1 }
 hears now received known draw m (Some vectors) = record m { heard = Some (vectors ++ received ∷ []) }
 
--- What a member does that is due: it sends, but is quiet where it is Suppressed and those heard together cover the
--- vector that is known now.
+-- What a member does whose timer is due: it sends, but is quiet where it is Suppressed and the vectors that it heard
+-- together cover its own vector.
 abbrev pub due : List ℕ → Option (List (List ℕ)) → Fired
 due known None = Send
 due known (Some vectors) = if covers (join_all vectors) known then Quiet else Send
 
--- What a member does that fires: nothing before its deadline.
+-- What a member does whose timer is asked: nothing before its deadline.
 abbrev pub fires : ℕ → List ℕ → SyncMember → Fired
 fires now known m = if nat_lt now m.deadline then Early else due known m.heard
 
@@ -58,12 +58,12 @@ after_sync_event (heard now received known draw) m = hears now received known dr
 after_sync_event (fired now known draw) m = if nat_lt now m.deadline then m else steady now draw m
 after_sync_event (reset now draw) m = steady now draw m
 
--- And after a list of them.
+-- The member after a list of events.
 unfoldable pub after_sync_events : List SyncEvent → SyncMember → SyncMember
 after_sync_events [] m = m
 after_sync_events (e ∷ es) m = after_sync_events es (after_sync_event e m)
 
--- The mode that the vectors heard say.
+-- The mode of a member, by the vectors that it heard since it was last Steady.
 abbrev pub mode_of : {A : Type 0} → Option A → Mode
 mode_of None = Steady
 mode_of (Some vectors) = Suppressed

@@ -41,20 +41,20 @@ pub record IsKeyName (name : List Component) : Type 0 where
 
 -- ---- writing
 
--- The sync Interest of the numbers of a vector's members, signed under the key of this name: its parameters are
--- the state vector.
+-- The sync Interest with the numbers `vector` of the members `roster`, signed under the key of this name: its
+-- parameters are the state vector.
 abbrev pub sync_interest : List Component → List ℕ → List (List Component) → List Component → List ℕ → List ℕ
 sync_interest group vector roster key_name key =
     written_interest (sync_name group) (written_vector roster vector) key_name key
 
 -- ---- checking
 
--- A refusal of what stands below is refused as such.
+-- An Interest, or its fault as a refusal of the sync Interest.
 abbrev pub packet_or : Result Interest PacketFault → Result Interest SyncRefusal
 packet_or (Ok interest) = Ok interest
 packet_or (Err fault) = Err (Packet fault)
 
--- The refusal of a sync Interest that nobody signed, by the reason.
+-- The refusal of a sync Interest whose signature doesn't pass, by the reason.
 abbrev pub unsigned_as : SignatureError → SyncRefusal
 unsigned_as signature.Unsigned = Unsigned
 unsigned_as signature.ParamsDigest = ParamsDigest
@@ -84,7 +84,7 @@ sync_interest_verdict group roster ring i = do
   vector ← vector_or (vector_of roster (unwrap_or i.parameters []))
   Ok (signer, vector)
 
--- The same of octets.
+-- The number of the key that signed the sync Interest `octets`, and its vector; or the first refusal.
 abbrev pub sync_verdict : List Component → List (List Component) → List NamedKey → List ℕ
     → Result (ℕ × List ℕ) SyncRefusal
 sync_verdict group roster ring octets =

@@ -7,8 +7,8 @@ use Rattle.svs_sync.specs.declared.fired.Fired.TheVariants.{Early, Quiet, Send}
 use Rattle.svs_sync.specs.Suppression.{SyncEvent, SyncMember, periodic, suppression}
 use Rattle.svs_sync.specs.Suppression.SyncEvent.{published, heard, fired, reset}
 
--- Nothing where the member is Steady, and where it is Suppressed the join of the vectors that were heard since; its
--- deadline; how many draws it has used; and of how many members its vectors are.
+-- The sync state of a member: the join of the vectors that were heard since it was last Steady, or `None` where it is
+-- Steady; its deadline; how many draws it has used; and for how many members its vectors have numbers.
 pub record SyncState : Type 0 where
   pub members : ℕ
   pub heard : Option (List ℕ)
@@ -41,11 +41,11 @@ abbrev pub when_due : List ℕ → Option (List ℕ) → Fired
 when_due known None = Send
 when_due known (Some vector) = if covers vector known then Quiet else Send
 
--- What a member does whose timer is asked at this time.
+-- What a member does whose timer is asked at the time `now`.
 abbrev pub when_fired : ℕ → List ℕ → SyncState → Fired
 when_fired now known k = if nat_lt now k.deadline then Early else when_due known k.heard
 
--- The state afterwards: a timer that was due is set anew.
+-- The state after the timer was asked at the time `now`: a timer that was due is set anew.
 abbrev pub state_after_firing : ℕ → ℕ → SyncState → SyncState
 state_after_firing now draw k = if nat_lt now k.deadline then k else becomes_steady now draw k
 

@@ -1,4 +1,4 @@
-/// What a member does that fires.
+/// What a member does when its timer is asked.
 #[derive(Clone, Copy, Debug, PartialEq, Eq)]
 pub enum Fired {
     /// The deadline hasn't come.

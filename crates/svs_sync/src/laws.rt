@@ -11,8 +11,8 @@ ghost use Rattle.svs_vector.specs.declared.vector_fault.VectorFault.TheVariants 
 ghost use Rattle.std.specs.Prelude.{◌≢◌, IfErr};
 ghost use Rattle.svs_sync.specs.SyncStates.{kept, state_after_events, when_fired};
 
-/// After any list of events, what is kept is what the table says over the list of vectors heard since the member was
-/// last Steady, with their join for the list.
+/// After any list of events, the sync state is what the table says over the list of vectors heard since the member was
+/// last Steady, with their join in place of the list.
 pub fn what_is_kept_is_the_join()
     ensures after { (members : ℕ) (events : List SyncEvent) (m : SyncMember)
         → state_after_events events (kept members m) ≡ kept members (after_sync_events events m) }

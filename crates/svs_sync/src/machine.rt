@@ -21,7 +21,7 @@ pub struct Machine {
     draws: u64,
 }
 
-// A sync state is seen as what it keeps of its member.
+// Contracts see a sync state as its `SyncState`.
 impl Model for Machine {
     ghost use Rattle.svs_sync.specs.SyncStates.{SyncState};
 
@@ -69,7 +69,7 @@ impl Machine {
         self.settle(now, draw);
     }
 
-    /// The member was informed of a vector, while `known` was the one that it knew.
+    /// The member heard the vector `received`, while `known` was its own vector.
     pub fn heard(&mut self, now: u64, received: &Vector, known: &Vector, draw: u32) -> Mode
         requires early { now < 2 ^ 62 }
         requires few { self.old.draws < 2 ^ 62 }
@@ -93,7 +93,7 @@ impl Machine {
         self.mode
     }
 
-    /// What the member does now, where `known` is the vector that it knows.
+    /// What the member does now, where `known` is its own vector.
     pub fn fired(&mut self, now: u64, known: &Vector, draw: u32) -> Fired
         requires early { now < 2 ^ 62 }
         requires few { self.old.draws < 2 ^ 62 }

@@ -12,8 +12,8 @@ use ndn_tlv::types;
 use std::alloc::{AllocError, Global};
 use svs_vector::{Roster, Vector, VectorNumbers};
 
-// What stands after the group's name in that of its sync Interests: the component of version 2,
-// and the head of the parameters digest's component.
+// What stands after the group's name in the name of its sync Interests: the component of version 2, and the head of the
+// parameters digest's component.
 const AFTER_GROUP: [u8; 5] = [
     types::VERSION_NAME_COMPONENT as u8,
     1,
@@ -22,7 +22,7 @@ const AFTER_GROUP: [u8; 5] = [
     32,
 ];
 
-// Of State Vector Sync.
+// The version of State Vector Sync.
 const VERSION: u8 = 2;
 
 /// Makes the sync Interest of a member that knows this vector, signed with its key (State Vector
@@ -88,8 +88,8 @@ pub fn check_sync(
 /// Checks the octets of a sync Interest of the group, and gives the number of the key in the ring
 /// that signed it, and its numbers. It allocates nothing.
 ///
-/// The signer is known by its key alone, whatever the numbers are. What follows the state vector
-/// in the parameters is passed over.
+/// The signer is recognised by its key alone, whatever the numbers are. What follows the state vector in the parameters
+/// is passed over.
 pub fn check_numbers(
     octets: &[u8],
     group: &Name,

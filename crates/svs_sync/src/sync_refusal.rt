@@ -6,7 +6,7 @@ use thiserror::Error;
 /// Why octets are no sync Interest that a member takes, in the order of the tests.
 #[derive(Clone, Copy, Debug, PartialEq, Eq, Error)]
 pub enum SyncRefusal {
-    /// They are no Interest.
+    /// The octets are no Interest.
     #[error("{0}")]
     Packet(PacketFault),
     /// The name is not the group's, version 2 and a parameters digest.

@@ -43,9 +43,9 @@ impl Holdings {
 }
 
 impl Stock {
-    // A part that is asked for is held from now on, with the packet that came, where there is room, and what the packet
-    // reports is noted. The answer is what changes in the catalogue. Digests over contents that are given aren't made
-    // again.
+    // A part that is asked for is held from now on, with the packet received for it, where there is room, and what the
+    // packet reports is noted. The answer is the change of the catalogue. Digests that are given in `digests` aren't
+    // computed again.
     pub(super) fn gain(
         &mut self,
         part: Part,
@@ -75,7 +75,8 @@ impl Stock {
     }
 }
 
-// A part that is asked for is held from now on, with its packet, within the capacity. `shape` is what a record says.
+// A part that is asked for is held from now on, with its packet, within the capacity. `shape` has the part counts that
+// a record reports.
 pub(super) fn gain(
     plan: &mut Plan,
     store: &mut Store,

@@ -19,8 +19,8 @@ impl Holdings {
     /// These publications, which are in order, are hidden for good: none of their packets is held or listed any more,
     /// and none of their parts is wanted. The capacity that was reserved stays.
     ///
-    /// Packets and entries go in one pass, however many publications there are. A withdrawal can't be hidden: what it
-    /// withdraws stays so.
+    /// Packets and entries are removed in one pass, however many publications there are. A withdrawal can't be hidden:
+    /// what it withdraws stays withdrawn.
     pub fn hide_all(&mut self, publications: &[(u32, u16)]) -> Result<(), AllocError>
         requires unclaimed { All (λ pair. claims_part_in (held_plan self.old) pair ≡ false) publications.now }
         requires in_order { Rises pair_cmp publications.now }
@@ -71,7 +71,7 @@ fn hide_in_plan(plan: &mut Plan, publications: &[(u32, u16)])
     }
 }
 
-// No name of an object of these publications is noted any more.
+// Removes the noted names of the objects of these publications.
 fn forget_names(notes: &mut Notes, publications: &[(u32, u16)])
     ensures withdrawn { notes.new.withdrawn ≡ notes.old.withdrawn }
     ensures others { (q : Pair) → contains pair_cmp publications.now q ≡ false

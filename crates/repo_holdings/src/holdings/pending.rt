@@ -5,8 +5,8 @@ ghost use Rattle.repo_holdings.specs.Changing.{fresh_with, gone_with};
 use crate::changes::Change;
 use repo_catalog::Entry;
 
-// The entries of what becomes whole wait here while packets are taken, and so do the publications whose entries are to
-// be removed.
+// While packets are taken, the entries of objects that become whole wait here, and so do the publications whose entries
+// are to be removed.
 #[derive(Drop)]
 pub(super) struct Pending {
     pub(super) fresh: Vec<Entry>,
@@ -14,7 +14,7 @@ pub(super) struct Pending {
 }
 
 impl Pending {
-    // A change waits, for which there is room.
+    // Adds a change to those that wait. There is room for it.
     pub(super) fn push(&mut self, change: Change)
         requires fresh_room { length self.old.fresh.items < vec_capacity self.old.fresh }
         requires gone_room { length self.old.gone.items < vec_capacity self.old.gone }

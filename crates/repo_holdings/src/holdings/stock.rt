@@ -1,4 +1,4 @@
-// What is stored of publications, and what is known of it.
+// The stored packets of publications, with their plan and their notes.
 use crate::notes::Notes;
 use repo_plan::Plan;
 use repo_store::Store;

@@ -23,7 +23,7 @@ pub struct StoredParent<'m> {
 }
 
 impl StoredParent<'_> {
-    // Whether it lists the part.
+    // Whether this stored part lists `part`.
     fn lists(&self, part: Part) -> bool
         ensures { IsTrue result ↔ (self.now.part ≡ parent self.now.shape part) }
     {
@@ -39,7 +39,7 @@ impl StoredParent<'_> {
 impl Holdings {
     /// The stored part that lists a part which is asked for, or none where the part is a record itself.
     ///
-    /// It is `last`, where that lists the part: parts come one after another, and so what lists them is read once.
+    /// It is `last`, if that lists the part: so a part that lists several parts in a row is read once.
     pub fn parent_for<'m>(
         &'m self,
         part: Part,
@@ -100,7 +100,7 @@ fn parent_in(store: &Store, part: Part) -> StoredParent<'_>
     }
 }
 
-// The object that the record lists that is stored as this part.
+// The object that the stored record `part` lists.
 fn listing_in(store: &Store, part: Part) -> ListingView<'_>
     requires part { part.part ≡ 0 }
     requires stored { IsSome (listing_at store.now.packets (pair_of part)) }
@@ -112,7 +112,7 @@ fn listing_in(store: &Store, part: Part) -> ListingView<'_>
     listing
 }
 
-// What the index packet lists that is stored as this part, of an object that is listed so.
+// The digests that the stored index packet `part` lists, of the object that `listing` describes.
 fn index_in<'m>(store: &'m Store, part: Part, listing: &ListingView<'_>) -> DigestsView<'m>
     requires index { 0 < part.part }
     requires stored { IsSome (index_at store.now.packets (pair_of part) listing.now.segments part.part) }

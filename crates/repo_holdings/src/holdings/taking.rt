@@ -18,7 +18,7 @@ use crate::record_summary::Arrival;
 use repo_catalog::Catalogue;
 use repo_plan::Part;
 
-/// The result of a part that was asked for: how often it was tried, and its packet, if one was received.
+/// A part that was asked for, how many attempts were made, and its packet, if one was received.
 #[derive(Drop)]
 pub struct Tried {
     pub part: Part,
@@ -27,7 +27,7 @@ pub struct Tried {
 }
 
 impl Tried {
-    // How many octets its packet has, or none if no packet came.
+    // How many octets the received packet has; 0 if none was received.
     fn octets(&self) -> u64
         ensures { result ≡ arrival_octets self.now }
     {
@@ -38,7 +38,7 @@ impl Tried {
     }
 }
 
-/// What was taken: the parts that are held from now on and were not held, and the octets of their packets.
+/// What `take` added: the number of parts that are newly held, and the number of octets of their packets.
 #[derive(Clone, Copy, Debug, PartialEq, Eq)]
 pub struct Taken {
     pub parts: u32,
@@ -46,11 +46,11 @@ pub struct Taken {
 }
 
 impl Holdings {
-    /// Takes the results of parts that were asked for, within the capacity: the packets that came are held from now on,
-    /// and the attempts are counted. The entries of what becomes whole are merged into the catalogue together, and
-    /// those of what is withdrawn are removed together. It allocates nothing.
+    /// Takes the results of parts that were asked for, within the capacity: the packets that were received are held
+    /// from now on, and the attempts are counted. The entries of objects that become whole are merged into the
+    /// catalogue together, and those of withdrawn objects are removed together. It allocates nothing.
     ///
-    /// Digests over contents that are given, in order of their publications, aren't made again.
+    /// Digests that `digests` gives, in order of their publications, aren't computed again.
     pub fn take(&mut self, all: Vec<Tried>, digests: &[ContentsDigest]) -> Taken
         requires room { vec_len all ≤ self.old.spare }
         requires takable { AreTakable (held_plan self.old) self.old.store all.items }
@@ -70,7 +70,7 @@ impl Holdings {
     }
 }
 
-// Removes the entries of these publications, which are forgotten.
+// Removes the entries of the publications `gone`, and empties `gone`.
 fn remove_gone(catalogue: &mut Catalogue, gone: &mut Vec<(u32, u16)>)
     requires { AreApartPairs gone.old.items }
     ensures removed { catalogue.new ≡ record catalogue.old {
@@ -88,8 +88,8 @@ fn remove_gone(catalogue: &mut Catalogue, gone: &mut Vec<(u32, u16)>)
 }
 
 impl Stock {
-    // Takes what came of parts that were asked for, for which there is room. The entries of what becomes whole wait
-    // from now on, and so do the publications that are withdrawn newly.
+    // Takes the results of parts that were asked for. There is room for them. The entries of objects that become whole
+    // wait from now on, and so do the publications that are newly withdrawn.
     fn take_all(
         &mut self,
         pending: &mut Pending,
@@ -116,7 +116,7 @@ impl Stock {
         Taken { parts, octets }
     }
 
-    // Takes what came of one part.
+    // Takes the result of one part.
     fn take_one(&mut self, pending: &mut Pending, tried: Tried, digests: &[ContentsDigest])
         requires ready { AreReady 1 self.old pending.old }
         requires takable { CanBeTaken self.old.plan self.old.store.packets tried }

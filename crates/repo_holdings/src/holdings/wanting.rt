@@ -46,7 +46,9 @@ impl Holdings {
         self.jobs_of(alloc, publishers, group, &parts)
     }
 
-    /// Such jobs of those parts that one of the others holds. Takes no look-up for a part that none of them holds.
+    /// The least parts that are wanted, that no fetcher claims, that one of `others` holds and that are greater than
+    /// `after`, at most `most` of them, as jobs like those of `jobs`. Takes no look-up for a part that none of `others`
+    /// holds.
     pub fn held_jobs<H: HasParts>(
         &self,
         alloc: Global,
@@ -112,7 +114,7 @@ impl Holdings {
             .to_want(alloc)
     }
 
-    /// What the packet of a part must be that is asked for, and that `stored` lists, unless it is a record. It takes no
+    /// What the packet must be of a part that is asked for, and that `stored` lists, unless it is a record. It takes no
     /// memory.
     pub fn expected<'w>(
         &'w self,

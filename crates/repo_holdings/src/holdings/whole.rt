@@ -1,4 +1,4 @@
-// Publications that become whole by packets that came.
+// Publications that become whole by packets that were received.
 ghost use Rattle.std.specs.Prelude.{◌≡◌, ◌-◌, ◌<◌, ◌≤◌, ◌^◌, [], List, length, map, min, Some, unwrap_or};
 ghost use Rattle.std.specs.Prelude.{slice_get, IfSome, IfOk};
 ghost use Rattle.std.specs.List.{All};
@@ -18,7 +18,7 @@ use repo_plan::Part;
 use sha2::{Digest, Sha256};
 use std::alloc::{AllocError, Global};
 
-/// A publication that becomes whole, with the contents of its segments one after another, where they lie.
+/// A publication that becomes whole, with the contents of its segments one after another, borrowed, not copied.
 #[derive(Drop)]
 pub struct Whole<'a> {
     pub publisher: u32,
@@ -50,12 +50,12 @@ impl Whole<'_> {
 }
 
 impl Holdings {
-    /// Publications that become whole by the results of jobs, in order where these are in order of their parts, with
-    /// their contents where they lie. So digests over these can be made before the packets are taken, and be given to
-    /// `take`.
+    /// Publications that become whole by the results `parts` of `jobs`, with their contents, borrowed, not copied. They
+    /// are in order where the jobs are in order of their parts. So the digests of the contents can be made before the
+    /// packets are taken, and be given to `take`.
     ///
-    /// Only publications are among them of which segments came, all of them adjacent. The others are listed by
-    /// `take` all the same.
+    /// Only publications are among them of which segments were received, by jobs that stand next to each other. `take`
+    /// lists the others all the same.
     pub fn whole_with<'a>(
         &'a self,
         alloc: Global,
@@ -89,8 +89,8 @@ impl Holdings {
         Ok(whole)
     }
 
-    // Whether a publication misses so many parts, one at least, beside those that are claimed. This takes a time that
-    // goes by this number, and not by how many parts there are.
+    // Whether just `came` parts of a publication, after its record, are wanted and not claimed, and `came` isn't 0. The
+    // time this takes goes by `came`, and not by how many parts there are.
     fn misses_only(
         &self,
         alloc: Global,
@@ -112,7 +112,7 @@ impl Holdings {
         Ok(missing.iter().filter(is_of).count() == came)
     }
 
-    // The contents of a publication's segments, as they are stored or came, or none where one is missing.
+    // The contents of a publication's segments, as they are stored or were received; `None` where one is missing.
     fn contents_with<'a>(
         &'a self,
         alloc: Global,
@@ -145,7 +145,7 @@ impl Holdings {
         Ok(Some(contents))
     }
 
-    // The content of a part, where it is stored or came.
+    // The content of a part, if its packet is stored or was received.
     fn content_with<'a>(
         &'a self,
         part: Part,
@@ -168,14 +168,14 @@ impl Holdings {
     }
 }
 
-// The result of the job of a place.
+// The packet received for the job at `place`, if there is one.
 fn received_at<'s, 'a>(parts: &'s [Option<Checked<'a>>], place: usize) -> Option<&'s Checked<'a>>
     ensures { IfSome result (λ checked. slice_get parts.now place ≡ Some (Some checked.now)) }
 {
     parts.get(place)?.as_ref()
 }
 
-// Whether the job after that of a place is of another publication.
+// Whether the job after the one at `place` is of another publication, or there is none.
 fn is_last(jobs: &[Job], place: usize) -> bool
     requires { place < length jobs.now }
 {

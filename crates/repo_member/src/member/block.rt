@@ -27,8 +27,8 @@ pub enum Blocked {
 }
 
 impl Member {
-    /// Takes a block of an insertion, unless there is one of its index already. The last one that was missing publishes
-    /// the object, or isn't taken where that is refused.
+    /// Takes a block of an insertion, unless the process has one of its index already. The last missing block publishes
+    /// the object, and isn't taken where publishing is refused.
     pub fn block(
         &mut self,
         g: &Group,

@@ -138,7 +138,7 @@ impl Member {
         Ok(answered)
     }
 
-    // How an insertion stands.
+    // The answer to a check of an insertion process.
     fn standing(&self, process: u64) -> Answer
         ensures { result ≡ check_answer (value_of nat_cmp self.now.insertions.processes process) }
     {
@@ -214,8 +214,8 @@ impl Member {
         Ok(Answered { answer, reply })
     }
 
-    /// The packet that says an answer to octets; `None` where these are no Interest, or one whose name has more than
-    /// 1,000 octets of value.
+    /// The packet that says an answer to octets; `None` where the octets are no Interest, or one whose name has more
+    /// than 1,000 octets of value.
     pub fn reply(
         &self,
         g: &Group,

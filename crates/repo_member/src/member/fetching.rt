@@ -132,7 +132,7 @@ impl Member {
         Ok(part)
     }
 
-    // The packet that came for the part that the fetcher claims is held from now on, and the claim is over.
+    // The packet that was received for the part that the fetcher claims is held from now on, and the claim is over.
     fn gain_claimed(&mut self, f: u8, part: Part, arrival: Arrival) -> Result<(), AllocError>
         requires fetcher { IsFetcher f }
         requires claimed { claim_of (member_plan self.old) f ≡ Some part }
@@ -147,8 +147,8 @@ impl Member {
         Ok(())
     }
 
-    /// The least parts that are wanted, that no fetcher claims and that are greater than `after`, at most `most` of
-    /// them, as jobs whose attempts go on from those that were made.
+    /// The jobs of the least parts that are wanted, that no fetcher claims and that are greater than `after`, at most
+    /// `most` of them. Their attempts go on from those that were made.
     pub fn plan(
         &self,
         alloc: Global,
@@ -164,7 +164,8 @@ impl Member {
         self.held.jobs(alloc, g.roster(), g.name(), after, most)
     }
 
-    /// Such jobs of those parts that one of the others holds. Takes no look-up for a part that none of them holds.
+    /// The jobs of the least parts that one of `others` holds, that are wanted, that no fetcher claims and that are
+    /// greater than `after`, at most `most` of them. Takes no look-up for a part that none of `others` holds.
     pub fn plan_held<H: HasParts>(
         &self,
         alloc: Global,
@@ -183,7 +184,7 @@ impl Member {
             .held_jobs(alloc, g.roster(), g.name(), others, after, most)
     }
 
-    // The packet that came for a part, if the octets pass for it. Memory is taken for it last.
+    // The packet that was received for a part, if the octets pass for it. Memory is taken for it last.
     fn arrival(&self, g: &Group, part: Part, octets: &[u8]) -> Result<Arrival, AcceptRefusal>
         requires group { IsOfGroup g.now self.now }
         requires asked { may_be_asked_for (member_plan self.now) part ≡ true }
@@ -210,7 +211,7 @@ impl Member {
     }
 }
 
-// The packet that was checked for the want of a part, as it comes for that part.
+// The packet that was checked for the want of a part, as an `Arrival` for that part.
 pub(super) fn arrived(alloc: Global, checked: &Checked<'_>) -> Result<Arrival, AllocError>
     ensures octets { IfOk result (λ arrival. arrival.packet ≡ checked.now.octets) }
     ensures arrival { IfOk result (λ arrival. (packets : List Stored)

@@ -43,8 +43,8 @@ impl Member {
         Ok(kept.parts)
     }
 
-    /// Publications that become whole by the result of a fetch, with their contents as they lie. Their digests can be
-    /// made before the packets are taken.
+    /// Publications that become whole by the result of a fetch, with their contents borrowed, not copied. Their digests
+    /// can be made before the packets are taken.
     pub fn whole_with<'a>(
         &'a self,
         alloc: Global,
@@ -82,7 +82,7 @@ impl Member {
         Ok(FetchCounts { parts, octets })
     }
 
-    // The result of a fetch that was planned, with its packets as they are kept.
+    // The result of a fetch that was planned, with its packets as the member stores them.
     fn tried(
         &self,
         g: &Group,

@@ -79,8 +79,8 @@ impl Member {
     }
 
     /// The member withdraws an object that it published under an earlier number, by a publication under its next
-    /// number: whoever holds the record of that lists the object no more. The parts of the object stay wanted, held and
-    /// served.
+    /// number. A member or mirror that holds the record of the withdrawal doesn't list the object any more. The parts
+    /// of the object stay wanted, held and served.
     ///
     /// An object that the member deleted can be withdrawn too. A withdrawal can't.
     pub fn withdraw(
@@ -114,7 +114,7 @@ impl Member {
         }
     }
 
-    // Publishes an object or a withdrawal under the next number, or gives it back where memory is wanting.
+    // Publishes an object or a withdrawal under the next number, or gives it back where memory runs out.
     pub(super) fn publish_post(
         &mut self,
         g: &Group,
@@ -136,7 +136,7 @@ impl Member {
         self.publish_prepared(post, prepared, now, draw)
     }
 
-    // Publishes what was prepared under the next number, or gives it back where memory is wanting.
+    // Publishes what was prepared under the next number, or gives it back where memory runs out.
     fn publish_prepared(
         &mut self,
         post: Post,
@@ -156,7 +156,7 @@ impl Member {
     {
         let seq = self.next_seq();
         let number = self.number;
-        // No part of a number that is still to come is held.
+        // The member holds no part of the next number, under which nothing is published yet.
         self.held.cite_soundness();
         let Ok(()) = self.log.reserve(1) else {
             return Err(post);

@@ -29,8 +29,8 @@ pub enum Fire {
 }
 
 impl Member {
-    /// The member hears a sync Interest: it knows from now on what it knew and what that says, and its sync state is
-    /// informed of the vector too.
+    /// The member hears a sync Interest: its vector is from now on the join with the Interest's vector, and its sync
+    /// state is informed of that vector too.
     pub fn hear(
         &mut self,
         g: &Group,
@@ -67,9 +67,10 @@ impl Member {
         mode
     }
 
-    /// The member learns the vector of a sync Interest, as `hear` does, and its sync state isn't informed of it.
+    /// The member joins the vector of a sync Interest to its own, as `hear` does, and its sync state isn't informed of
+    /// it.
     ///
-    /// The answer is whether the member knows of more than before.
+    /// The answer is whether the member's vector changed.
     pub fn join_from(&mut self, g: &Group, octets: &[u8]) -> Result<bool, HearRefusal>
         requires group { IsOfGroup g.now self.old }
         ensures ok { OnOk result (IsOkAnd (hear_verdict g.now self.old octets.now)
@@ -82,8 +83,8 @@ impl Member {
         Ok(self.join_vector(&received))
     }
 
-    /// The member learns a vector that reports no more publications of it than it made, as `join_from` does. It takes
-    /// no memory.
+    /// The member joins a vector to its own, as `join_from` does. The vector reports no more publications of the member
+    /// than it made. It takes no memory.
     pub fn join_vector(&mut self, received: &Vector) -> bool
         requires width { length received.now ≡ length self.old.known }
         requires members { length received.now ≤ node_limit }
@@ -113,7 +114,7 @@ impl Member {
         Ok(fire)
     }
 
-    /// The sync Interest of what the member knows now.
+    /// The sync Interest with the member's vector as it is now.
     pub fn sync(&self, alloc: Global, g: &Group) -> Result<Vec<u8>, AllocError>
         requires { IsOfGroup g.now self.now }
         ensures { IfOk result (λ sync. sync.items ≡ sync_of g.now self.now.number self.now.known) }
@@ -156,7 +157,7 @@ impl Member {
     }
 }
 
-// The vector is learnt. The answer is whether more is known than before.
+// Joins `received` to the vector of a member and of its holdings. The answer is whether the vector changed.
 fn learn(vector: &mut Vector, held: &mut Holdings, received: &Vector) -> bool
     requires width { length received.now ≡ length vector.old }
     requires few { length received.now ≤ node_limit }
@@ -171,7 +172,7 @@ fn learn(vector: &mut Vector, held: &mut Holdings, received: &Vector) -> bool
     vector.join(received)
 }
 
-// The sync Interest of a member with a vector.
+// The sync Interest of the member `number` with the vector `vector`.
 pub(super) fn sync_of(
     alloc: Global,
     g: &Group,

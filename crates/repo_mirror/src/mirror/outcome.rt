@@ -34,9 +34,9 @@ struct Sorted {
 }
 
 impl Mirror {
-    /// Takes the result of a fetch that was planned: for each job its packet, if any, and how often it was tried.
-    /// The answer is how many parts came. Those are held from now on, except the records of objects that the mirror's
-    /// pattern doesn't accept, which are passed over. There is no memory for more jobs than a `u32` counts.
+    /// Takes the result of a fetch that was planned: for each job its packet, if any, and how often it was tried. The
+    /// answer is how many parts were received. Those are held from now on, except the records of objects that the
+    /// mirror's pattern doesn't accept, which are passed over. There is no memory for more jobs than a `u32` counts.
     pub fn take_outcome(
         &mut self,
         filter: &Filter,
@@ -57,7 +57,8 @@ impl Mirror {
         Ok(number_that_came(parts))
     }
 
-    // The results of jobs, with their packets as they are kept, sorted into what is kept and what is passed over.
+    // The results of jobs, with their packets as the mirror stores them, sorted into what is kept and what is passed
+    // over.
     fn sorted(
         &self,
         filter: &Filter,
@@ -93,7 +94,7 @@ impl Mirror {
     }
 }
 
-// How many packets came.
+// How many packets were received.
 fn number_that_came(parts: &[Option<Checked<'_>>]) -> u32
     requires { length parts.now < 2 ^ 32 }
     ensures { result ≡ count_by is_some parts.now }
@@ -101,7 +102,7 @@ fn number_that_came(parts: &[Option<Checked<'_>>]) -> u32
     parts.iter().filter(|part| part.is_some()).count() as u32
 }
 
-// The result of a job, with its packet as it is kept.
+// The result of a job, with its packet as the mirror stores it.
 fn tried(
     alloc: Global,
     job: &Job,
@@ -130,7 +131,7 @@ fn tried(
     })
 }
 
-// The packet that was checked for the want of a part, as it comes for that part.
+// The packet that was checked for the want of a part, as an `Arrival` for that part.
 fn arrived(alloc: Global, checked: &Checked<'_>) -> Result<Arrival, AllocError>
     ensures octets { IfOk result (λ arrival. arrival.packet ≡ checked.now.octets) }
     ensures received { IfOk result (λ arrival. arrival.summary ≡ summary_in checked.now.want.part arrival.packet) }
@@ -161,7 +162,7 @@ fn is_for(filter: &Filter, pattern: &Pattern, tried: &Tried) -> bool
     }
 }
 
-// Puts a publication to others, in order, unless it is there.
+// Adds a publication to others, in order, unless it is there.
 fn put_in_order(passed: &mut Vec<(u32, u16)>, publication: (u32, u16)) -> Result<(), AllocError>
     requires { Rises pair_cmp passed.old.items }
     ensures { OnOk result (passed.new.items ≡ insert_key pair_cmp publication passed.old.items) }

@@ -56,7 +56,7 @@ nothing_stored : (o : Option (List ℕ)) → (let none : Option (List ℕ) = Non
 nothing_stored None same = refl
 nothing_stored (Some octets) same = absurd cc
 
--- what came for the part at a place
+-- the packet received for the part of the job at a place
 came_there : (jobs : List Job) (parts : List (Option CheckedPart)) (packets : List Packet) (t : Part) (i : ℕ) (d : Job)
     (checked : CheckedPart) → PartsDiffer (map job_part jobs) → i < length jobs
     → part_cmp (get_or jobs i d).want.part t ≡ Equal → value_of part_cmp packets t ≡ None
