@@ -7,7 +7,7 @@ use Rattle.rand_chacha.specs.ChaCha.{word_at, key_of}
 abbrev pub word : List ℕ → ℕ → ℕ → ℕ
 word seed stream place = word_at 4 (key_of seed) stream (place % 2 ^ 68)
 
--- Where an attempt at a part has its word.
+-- The place of the word of an attempt at a part.
 abbrev pub attempt_place : ℕ → ℕ → ℕ → ℕ → ℕ
 attempt_place publisher seq part attempt =
     publisher * 2 ^ 53 + seq * 2 ^ 37 + part * 2 ^ 21 + attempt
@@ -17,6 +17,6 @@ abbrev pub seeded_passes : List ℕ → ℕ → ℕ → ℕ → ℕ → ℕ → 
 seeded_passes seed asker publisher seq part attempt loss =
     nat_le loss (word seed asker (attempt_place publisher seq part attempt) % 1000)
 
--- A member's draw is the word of that number in a stream of its own, after those of all askers.
+-- A member's draw `k` is word `k` in a stream of the member's own, after the streams of all askers.
 abbrev pub seeded_draw : List ℕ → ℕ → ℕ → ℕ
 seeded_draw seed member k = word seed (2 ^ 32 + member) k

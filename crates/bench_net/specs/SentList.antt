@@ -20,17 +20,17 @@ pub record SentList : Type 0 where
   pub packets : List SentPacket
   pub spare : ℕ
 
--- The octets of the packet of a number.
+-- The octets of the packet of number `k`, if there is one.
 abbrev pub sent_octets : List SentPacket → ℕ → Option (List ℕ)
 sent_octets packets k =
     if k == 0 then None else option_map (λ (p : SentPacket). p.octets) (slice_get packets (k - 1))
 
--- The vector that it reports.
+-- The vector that the packet of number `k` reports, if there is one.
 abbrev pub sent_vector : List SentPacket → ℕ → Option (List ℕ)
 sent_vector packets k =
     if k == 0 then None else option_map (λ (p : SentPacket). p.vector) (slice_get packets (k - 1))
 
--- Who sent it.
+-- The sender of the packet of number `k`, if there is one.
 abbrev pub sent_sender : List SentPacket → ℕ → Option ℕ
 sent_sender packets k =
     if k == 0 then None else option_map (λ (p : SentPacket). p.sender) (slice_get packets (k - 1))

@@ -9,12 +9,12 @@ pub trait Draws {
     /// The draw, from the same numbers in the same order.
     ghost draw: { Self → ℕ → ℕ → ℕ };
 
-    /// A member's draw of a number. Its draws count from 0.
+    /// A member's draw of the number `k`, counted from 0.
     fn draw(&self, member: u32, k: u64) -> u32
         ensures { result ≡ draw self.now member k };
 }
 
-/// Draws that all give one value, as which contracts see them.
+/// Draws that all give one value. Contracts see them as that value.
 #[derive(Clone, Copy, Debug)]
 pub struct FixedDraws {
     value: u32,

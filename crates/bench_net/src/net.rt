@@ -20,8 +20,8 @@ pub trait Net {
     ) -> bool
         ensures { result ≡ passes self.now asker publisher seq part attempt loss };
 
-    /// Whether an answer may be long in coming, so that even a few questions are better asked at the same time. It
-    /// changes no answer.
+    /// Whether an answer may take long, so that even a few questions are better asked at the same time. This changes no
+    /// answer.
     fn may_wait(&self) -> bool {
         true
     }

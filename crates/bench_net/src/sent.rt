@@ -22,12 +22,12 @@ pub struct Sent {
     packets: Vec<Packet>,
     // Each vector that was sent, once.
     vectors: IndexSet<Vec<u16>>,
-    // Who sent which, by the vector's number.
+    // Each pair of a sender and the number of a vector that it sent.
     sent_pairs: IndexSet<(u32, usize)>,
     spare: usize,
 }
 
-// What was sent is dropped by one call, which is proved once, and not field by field wherever one is left.
+// A `Sent` is dropped by one call, which is proved once, and not field by field wherever one goes out of scope.
 impl Drop for Sent {
     fn drop(self) {
         let Sent {
@@ -74,7 +74,7 @@ impl Sent {
         self.packets.len()
     }
 
-    /// Appends a packet and gives its number. What is spare stays so.
+    /// Appends a packet and gives its number. The spare capacity is unchanged.
     pub fn add(&mut self, sender: u32, vector: &Vec<u16>, octets: &[u8]) -> Result<u32, AllocError>
         requires { length self.old.packets < 4294967295 }
         ensures number { IfOk result (λ k. k ≡ length self.old.packets + 1) }

@@ -3,7 +3,7 @@ ghost use Rattle.std.specs.Prelude.{◌≡◌, ◌==◌};
 use crate::net::Net;
 use std::marker::Model;
 
-/// The network that passes each part's attempt of one number, as which contracts see it, and no other.
+/// The network that passes each part's attempt of one number, and no other. Contracts see it as that number.
 #[derive(Clone, Copy, Debug)]
 pub struct TableNet {
     pass: u32,

@@ -3,7 +3,7 @@
 pub struct Tally {
     /// The sync Interests that were sent.
     pub syncs: u64,
-    /// Those that were delivered.
+    /// The deliveries of sync Interests.
     pub delivered: u64,
     /// The attempts at parts.
     pub attempts: u64,

@@ -1,4 +1,4 @@
--- What all members have gathered, one after another.
+-- The parts that all members gather, one member after another.
 use Rattle.std.proofs.Common.{◌≡◌, ◌⊎◌, inl, inr, ℕ, suc, zero, ◌+◌, ◌≤◌, ◌<◌, Bool, true, ◌||◌, List, [], ◌∷◌, map}
 use Rattle.std.proofs.Common.{length, get_or, set, take, refl, sym, ap, ◌∙◌, subst, arith}
 use Rattle.std.specs.Prelude.{sum_by}
@@ -58,7 +58,7 @@ others_set [] k a = refl
 others_set (m ∷ ms) zero a = refl
 others_set (m ∷ ms) (suc k) a = ap (λ (xs : List MemberState). m ∷ xs) (others_set ms k a)
 
--- However parts count, so much came as comes to a member in a settle.
+-- However parts count, what a member gained in a settle counts as much as the new parts of the model.
 came_sum : (w : World) (m : Member) (held : Rises part_cmp m.held) (weight : Part → ℕ) (n : ℕ)
     → n + sum_by weight m.held ≡ sum_by weight (settled_member w m).held → n ≡ sum_by weight (new_parts w m)
 came_sum w m held weight n count =
@@ -113,7 +113,7 @@ module _ (g : GroupKeys) (w : World) (group : IsSoundGroup w) (are : AreLogs g (
     still = λ i l. refl;
   }
 
-  -- Who hasn't gathered yet lacks nothing but parts of what was touched.
+  -- A member that hasn't gathered yet lacks only parts of touched publications.
   pub lacks_at : (n : Touched) → NoneLacks n (in_groups begun) → (j : ℕ) (mid : List MemberState)
       → FetchedSoFar g w begun j mid → j < length mid
       → LacksOnlyTouched member_words n (others_than j mid) (state_at mid j)
@@ -131,7 +131,7 @@ module _ (g : GroupKeys) (w : World) (group : IsSoundGroup w) (are : AreLogs g (
       (subst (λ (x : Member). (member_holds x t ≡ true) ⊎ (has_deleted x (pair_of t) ≡ true)) (member_of begun j there)
       (lacks j (omega (arith, there, groups)) t held off))
 
-  -- Each has come a part of the way.
+  -- Members that are gathering parts are partly settled.
   pub partly_all : (mid : List MemberState) → AreGathering g w begun mid → ArePartlySettled w (in_groups mid)
   partly_all mid all = record {
     len = length-map mid in_group ∙ all.len ∙ long;
@@ -175,7 +175,7 @@ module _ (g : GroupKeys) (w : World) (group : IsSoundGroup w) (are : AreLogs g (
     others_still : others_than j new ≡ others_than j mid
     others_still = ap (others_than j) set_is ∙ others_set mid j (state_at new j)
 
-    -- While one gathers, the others stay, and it may stop anywhere.
+    -- When member `j` has gained parts, each member is still gathering, or has gathered.
     pub gathered_part : AreGathering g w begun new
     gathered_part = record {
       len = new_len ∙ so_far.all.len;
@@ -250,7 +250,8 @@ module _ (g : GroupKeys) (w : World) (group : IsSoundGroup w) (are : AreLogs g (
         still = λ i l. elsewhere i (λ e. omega (arith, l, e)) ∙ so_far.still i (omega (arith, l));
       }
 
-      -- However parts count, so much more came.
+      -- However parts count, the sum over the first `j + 1` members is that over the first `j` and what member `j`
+      -- gained.
       pub sum_more : (weight : Part → ℕ) (n came : ℕ) → n ≡ new_parts_sum weight w (take j w.members)
           → Counts member_words weight came (state_at mid j) (state_at new j)
           → n + came ≡ new_parts_sum weight w (take (j + 1) w.members)
@@ -266,7 +267,7 @@ module _ (g : GroupKeys) (w : World) (group : IsSoundGroup w) (are : AreLogs g (
           sum_by_more (λ (m : Member). sum_by weight (new_parts w m)) w.members j no_member there in
           omega (arith, one, more, so_many)
 
-  -- All have gathered.
+  -- After the last member has gathered, all members are settled.
   pub gathered_all : (new : List MemberState) → FetchedSoFar g w begun (length begun) new
       → in_groups new ≡ map (settled_member w) w.members
   gathered_all new h =
@@ -283,7 +284,7 @@ module _ (g : GroupKeys) (w : World) (group : IsSoundGroup w) (are : AreLogs g (
       ∙ ap (λ (k : ℕ). new_parts_sum weight w (take k w.members)) long
       ∙ ap (new_parts_sum weight w) (take_all (length w.members) w.members (omega arith))
 
--- Where each counts one, the sum is how many come.
+-- If each part counts as one, the sum is the number of parts that all members gain.
 pub sum_ones : (w : World) → new_parts_sum one_each w w.members ≡ settle_new_parts w
 sum_ones w = over w.members where
   over : (ms : List Member) → new_parts_sum one_each w ms ≡ sum_by (λ (m : Member). length (new_parts w m)) ms

@@ -1,5 +1,5 @@
--- Who holds a part gives its packet to one that asks for it, where the packets of index packets and segments are known
--- by their names and digests.
+-- A member that holds a part answers with its packet when it is asked for the part, where index packets and segments
+-- are identified by their names and digests.
 use Rattle.std.proofs.Common.{◌≡◌, ◌≢◌, ◌⊎◌, inl, inr, ℕ, ◌-◌, ◌^◌, ◌<◌, ◌==◌, Bool, true, false, cond, List, [], ◌∷◌}
 use Rattle.std.proofs.Common.{◌++◌, length, get_or, Option, Some, None, option_map, refl, sym, ap, ◌∙◌, subst, arith}
 use Rattle.std.specs.Prelude.{◌≤◌, nat_le, slice_get, unwrap_or, is_some, IfSome, Result, Ok}
@@ -66,7 +66,7 @@ pub record EndsPlainly (name : List Component) : Type 0 where
   pub is : name ≡ prefix ++ last ∷ []
   pub plain : last.0 ≢ 1
 
--- It is no full name.
+-- A name whose last component is no digest is no full name.
 no_full_name : (name other : List Component) (digest : List ℕ) → EndsPlainly name → name ≢ full_name other digest
 no_full_name name other digest p e =
     p.plain (ap (λ (c : Component). c.0) (last_same p.prefix other p.last (1, digest) (sym p.is ∙ e)).1)

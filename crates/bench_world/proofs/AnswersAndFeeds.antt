@@ -1,4 +1,4 @@
--- What octets that came for a claim make of a world.
+-- What octets that were received for a claim make of a world.
 use Rattle.std.proofs.Common.{◌≡◌, ◌⊎◌, inl, inr, ℕ, ◌+◌, ◌-◌, ◌<◌, List, [], map, length, get_or, set, Option, Some}
 use Rattle.std.proofs.Common.{None, option_map, refl, sym, ap, ◌∙◌, subst, arith}
 use Rattle.std.specs.Prelude.{is_some, unwrap_or, Result, Ok, Err}
@@ -37,7 +37,7 @@ use Rattle.bench_world.proofs.ClaimedPackets.{claim_published, packet_is}
 use Rattle.bench_world.proofs.PacketSizes.{size_short}
 use Rattle.bench_world.proofs.States.{member_at, stepped_at, tally_fits}
 
--- ---- what is told
+-- ---- what is reported
 
 module _ (g : GroupKeys) (logs : Logs) where
   pub taken_by : (o : Option Part) (k : Response) (kept : Option ℕ) → answered g logs o k ≡ Ok kept
@@ -123,7 +123,7 @@ module _ (s : GroupState) (is : IsConsistentState s) (m : ℕ) (there : m < leng
         ∙ ap (set (in_groups s.members) m) (e ∙ sym (member_at s.members m))
         ∙ set-get_or (in_groups s.members) m no_member
 
-    -- The world is the group's after what came.
+    -- The world is the group's after the response.
     came_world : (kept : Option ℕ) (tally : Tally) → (o : Option Part) (k : Response)
         → answered s.keys (logs_around s.members) o k ≡ Ok kept
         → world_of (record s {

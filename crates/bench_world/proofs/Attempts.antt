@@ -1,4 +1,4 @@
--- The first attempt that brings something, where each that comes through brings the same.
+-- The first attempt that brings something, where all attempts that pass bring the same.
 use Rattle.std.proofs.Common.{◌≡◌, ℕ, suc, zero, ◌+◌, ◌<◌, Bool, true, false, cond, Option, Some, None, refl, sym, ap}
 use Rattle.std.proofs.Common.{◌∙◌, arith}
 use Rattle.std.specs.Prelude.{is_some, unwrap_or, find}
@@ -34,7 +34,7 @@ find_none p s (suc n) miss =
 -- ---- attempts
 
 module _ {T : Type 0} (f : ℕ → Option T) (tries : ℕ) where
-  -- Where none brings anything, all are made.
+  -- If no attempt brings anything, all `tries` attempts are made.
   pub none_comes : (part : Option T) (n : ℕ) → ((b : ℕ) → f b ≡ None) → IsFirst f tries part n
       → (part ≡ None) × (n ≡ tries)
   none_comes None n none h = (refl, h.0)
@@ -52,7 +52,7 @@ module _ {T : Type 0} (f : ℕ → Option T) (tries : ℕ) where
     missed : (b : ℕ) → f b ≡ None → p (1 + b) ≡ false
     missed b e = let k : 1 + b ≡ b + 1 = omega arith in ap p k ∙ missed_one (p (b + 1)) (sym (each b) ∙ e)
 
-    -- Where each that comes through brings the same, the first of those that come through brings it.
+    -- Where all attempts that pass bring the same, the first one that passes brings it.
     pub some_comes : (part : Option T) (n : ℕ) → IsFirst f tries part n
         → (part ≡ cond (is_some (find p (numbers_from 1 tries))) (Some c) None)
         × (n ≡ unwrap_or (find p (numbers_from 1 tries)) tries)

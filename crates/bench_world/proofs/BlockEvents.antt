@@ -144,7 +144,7 @@ module _ (s : GroupState) (is : IsConsistentState s) (m : ℕ) (there : m < leng
       (log : ℕ)
       → (r ≡ Err (NumbersSpent log)) ↔ (IsTrue (is_last becomes) × (log ≡ length old.log) × (65535 ≤ length old.log))
 
-  -- It is refused where it would complete an object and all numbers are spent.
+  -- A block that would complete an object is refused where all numbers are spent.
   pub block_refused : {A : Type 0} (draw : ℕ → ℕ → ℕ) (r : Result A PublishRefusal) (log : ℕ)
       → r ≡ Err (NumbersSpent log) → IsSpent r → refusal (drawing draw) (world_of s) event ≡ Some Refusal.NumbersSpent
   block_refused draw r log is_err spent =
@@ -160,7 +160,7 @@ module _ (s : GroupState) (is : IsConsistentState s) (m : ℕ) (there : m < leng
             ap (λ (c : Bool). unless (not c) Refusal.NumbersSpent)
             (le-leb 65535 (length (member (world_of s) m).log) (omega (arith, most, l)))
 
-  -- One that is taken finds a number where it completes an object.
+  -- A block that is taken and completes an object finds a number for it.
   pub finds_number : {A : Type 0} (r : Result A PublishRefusal) (x : A) → r ≡ Ok x → IsSpent r
       → IsTrue (is_last becomes) → length old.log < 65535
   finds_number r x is_ok spent last = elim (cases_Bool (nat_le 65535 (length old.log))) [
@@ -213,7 +213,7 @@ module _ (s : GroupState) (is : IsConsistentState s) (m : ℕ) (there : m < leng
                 λ i. ReportValue.BlockPublished m (seq_so one.seq t.0 i) (sync_so i)
             go _ _ t = absurd t
 
-      -- What it published is noted.
+      -- The publication that the block completed is noted.
       pub noted_so : (n later : Touched) → NotesAny n (blocked_pair m x) later
           → (p : Process) → block_at (world_of s) m process index content ≡ Whole p
           → touches later (m, length (member (world_of s) m).log + 1) ≡ true

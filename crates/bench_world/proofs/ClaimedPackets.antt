@@ -1,4 +1,4 @@
--- Packets that come for what fetchers claim.
+-- Packets that are received for what fetchers claim.
 use Rattle.std.proofs.Common.{◌≡◌, ◌≢◌, ◌⊎◌, inl, inr, ℕ, ◌-◌, ◌≤◌, ◌<◌, Bool, true, false, cond, ◌==◌, List, []}
 use Rattle.std.proofs.Common.{length, get_or, Option, Some, None, refl, sym, ap, ◌∙◌, subst, arith}
 use Rattle.std.specs.Prelude.{◌+◌, nat_le, unwrap_or, is_ok, IsOk, IsSomeAnd, IfSome, Result, Ok, Err}
@@ -184,7 +184,7 @@ module _ (g : GroupKeys) (logs : Logs) (a : MemberState) (are : AreLogs g logs)
         | inr held ↦ true≢false (sym (held t.part claim_published.counted) ∙ is.not_held)
       ]
 
-  -- The packet of the part is accepted, where octets that are it came.
+  -- Octets that are the packet of the part are accepted.
   pub accepts_its : (octets : List ℕ) → bytes_eq octets (unwrap_or (published_packet g logs t) []) ≡ true
       → member_accepts f t octets a ≡ accepts_claimed g logs f t (octets_response g logs t octets) a
   accepts_its octets same =

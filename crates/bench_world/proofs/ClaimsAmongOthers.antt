@@ -1,4 +1,4 @@
--- What comes of a claim of a member among others, which is taken out and put back.
+-- The answer for a claim of a member, which is taken out from among the others and put back.
 use Rattle.std.proofs.Common.{◌≡◌, ◌≢◌, ◌⊎◌, inl, inr, ℕ, ◌<◌, List, length, set, Option, Some, None, option_map, sym}
 use Rattle.std.proofs.Common.{ap, ◌∙◌, subst, arith}
 use Rattle.std.specs.Prelude.{IfOk, IfErr, OnOk, OnErr, Result, Ok, Err}
@@ -54,7 +54,7 @@ module _ (g : GroupKeys) (logs : Logs) (f m : ℕ) (ms : List MemberState) (can 
       (same ∙ sym (can.numbers m can.there))
 
   module _ (want_is : want ≡ published_want g logs want.part) where
-    -- So it can be asked for.
+    -- The fetcher `f` of member `m` can accept a packet for its want.
     pub can_accept : (x p : MemberState) → x ≡ state_at ms m → p ≡ state_at ms want.part.publisher
         → CanAccept g logs f want p x
     can_accept x p x_is p_is = record {
@@ -67,7 +67,7 @@ module _ (g : GroupKeys) (logs : Logs) (f m : ℕ) (ms : List MemberState) (can 
       want = want_is;
     }
 
-    -- What a member serves is what the group says that it gives.
+    -- What member `q` serves is read as `holder_response` says.
     pub served_is : (q : ℕ) → q < length ms → (b : MemberState) → b ≡ state_at ms q
         → packet_response g logs want.part (found (served want.interest b.store))
         ≡ holder_response g logs ms q (claim_in ms m f)
@@ -81,7 +81,7 @@ module _ (g : GroupKeys) (logs : Logs) (f m : ℕ) (ms : List MemberState) (can 
         want_is
         ∙ ap (holder_response g logs ms q) (sym claim)
 
-  -- ---- by what came
+  -- ---- by what was received
 
   module _ (came k : Response) (same : k ≡ came) where
     pub kept_so : {E : Type 0} (r : Result (Option ℕ) E) → IfOk r (λ kept. answered g logs (Some want.part) k ≡ Ok kept)

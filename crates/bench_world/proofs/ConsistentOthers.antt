@@ -6,7 +6,7 @@ use Rattle.repo_member.specs.MemberState.{MemberState}
 use Rattle.group_model.specs.Publications.{Logs}
 use Rattle.bench_world.specs.Worlds.{AreConsistentMembers}
 
--- All but one are as they were.
+-- If all members are consistent, all but one are.
 without : (g : GroupKeys) (logs : Logs) (xs : List MemberState) (k : ℕ) → AreConsistentMembers g logs xs
     → AreConsistentMembers g logs (remove xs k)
 without g logs [] zero all j l = absurd (omega (arith, l))

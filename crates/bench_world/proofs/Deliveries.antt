@@ -103,12 +103,12 @@ module _ (s : GroupState) (is : IsConsistentState s) (k : ℕ) (one : 1 ≤ k) (
   pub sent_is : sent_at (world_of s) k ≡ sync_in (get_or s.sent (k - 1) no_packet)
   sent_is = get_or-map sync_in s.sent (k - 1) no_packet no_sync (omega (arith, one, last))
 
-  -- Its octets are those of the sync Interest.
+  -- The octets of the packet are those of the sync Interest.
   pub octets_are : (get_or s.sent (k - 1) no_packet).octets
       ≡ sync_of s.keys (sent_at (world_of s) k).sender (sent_at (world_of s) k).vector
   octets_are = sync.octets ∙ ap (λ (p : SyncInterest). sync_of s.keys p.sender p.vector) (sym sent_is)
 
-  -- It has a number for each member.
+  -- The vector has at most 16 numbers.
   pub few_numbers : (received : List ℕ) → received ≡ (get_or s.sent (k - 1) no_packet).vector → length received ≤ 16
   few_numbers received same =
       let e = ap length same in let w = sync.vector.width in let n = many s is in let few = few_members s is in
@@ -118,7 +118,7 @@ module _ (s : GroupState) (is : IsConsistentState s) (k : ℕ) (one : 1 ≤ k) (
     pub fits : length (get_or s.sent (k - 1) no_packet).vector ≡ length old.known
     fits = sync.vector.width ∙ sym (consistent s is m there old old_is).sound.width
 
-    -- It reports no publication that there isn't.
+    -- The vector reports no more publications of member `m` than the member made.
     pub no_more : (received : List ℕ) → received ≡ (get_or s.sent (k - 1) no_packet).vector
         → slice_index received old.number ≤ length old.log
     no_more received at =

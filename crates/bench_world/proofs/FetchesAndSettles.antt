@@ -137,7 +137,7 @@ module _ (s : GroupState) (is : IsConsistentState s) where
   pub sound_only : IsSoundGroup (only_members s.members)
   sound_only = record { members = (sound_state s is).members; sent = λ k l. absurd (omega (arith, l)) }
 
-  -- ---- where memory was wanting
+  -- ---- where memory ran out
 
   still_processes : (mid : List MemberState) → ArePartlySettled (only_members s.members) (in_groups mid) → (j : ℕ)
       → (in_group (state_at mid j)).processes ≡ (in_group (state_at s.members j)).processes
@@ -187,7 +187,7 @@ module _ (s : GroupState) (is : IsConsistentState s) where
       }
 
   module _ (few : s.steps < 100000) where
-    -- A settle that wanted memory leaves the world sound.
+    -- A settle that ran out of memory leaves the world sound.
     pub failed_state : (mid : List MemberState) → length mid ≡ length s.members → MembersAreNumbered mid
         → AreConsistentMembers s.keys (logs_around s.members) mid → AllCountsStay s.members mid
         → ArePartlySettled (only_members s.members) (in_groups mid)

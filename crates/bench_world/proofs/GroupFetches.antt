@@ -1,4 +1,4 @@
--- What a member fetches is what comes to it in the group's fetch.
+-- What a member fetches is what it receives in the model's fetch.
 use Rattle.std.proofs.Common.{◌≡◌, inl, inr, ℕ, suc, zero, ◌+◌, ◌<◌, Bool, true, false, cond, ◌||◌, List, [], ◌∷◌, map}
 use Rattle.std.proofs.Common.{length, get_or, set, take, Option, Some, None, refl, sym, ap, ◌∙◌, subst, arith}
 use Rattle.std.specs.Prelude.{is_some, unwrap_or, find, filter, sum, sum_by, IfSome}
@@ -123,14 +123,15 @@ tried_sum f (x ∷ xs) all =
     let two = sum_by-cons f x.part (asked_for xs) in
     one ∙ (λ i. head i + rest i) ∙ sym two
 
--- What comes of the parts that a member asks these for.
+-- The results of the parts that the member `a` asks the members `lent` for.
 abbrev pub fetched_of : (ℕ → ℕ → ℕ → ℕ → ℕ → ℕ → Bool) → (j tries loss : ℕ) → List MemberState → MemberState
     → List Fetched
 fetched_of passes j tries loss lent a =
     fetched_all (attempt_passes passes j (Some loss)) lent tries (member_holdings a)
     (next_parts None (member_holdings a))
 
--- Where the member of a number takes what came of the others, all are as after the event; else they are as before.
+-- If member `j` takes the results of its fetch from the others, all members are as after the event. If it is as before,
+-- all members are.
 pub record HasFetchedAt (passes : ℕ → ℕ → ℕ → ℕ → ℕ → ℕ → Bool) (draw : ℕ → ℕ → ℕ) (g : GroupKeys) (w : World)
     (members : List MemberState) (j tries loss : ℕ) (lent new : List MemberState) (old left : MemberState) : Type
     0 where

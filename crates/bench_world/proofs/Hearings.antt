@@ -94,7 +94,7 @@ module _ (s : GroupState) (is : IsConsistentState s) (m : ℕ) (there : m < leng
 
   module _ (draws : ℕ → ℕ → ℕ) (x : HearRefusal)
       (x_is : (x ≡ hear.NoMemory) ⊎ (accepted_sync (length old.log) m r ≡ Err x)) where
-    -- They change nothing, are not foreign, and their refusal is reported.
+    -- Refused octets change nothing, are not foreign, and their refusal is reported.
     refused_by : (r : Result (ℕ × List ℕ) SyncRefusal) → accepted_sync (length old.log) m r ≡ Err x
         → (if_unsent (world_of s) m (read_as r) ≡ None)
         × (after_hear (drawing draws) (world_of s) m (read_as r) ≡ world_of s)

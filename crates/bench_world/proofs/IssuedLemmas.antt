@@ -141,7 +141,7 @@ may_foreign : (w : World) (m : ℕ) (r : Result (ℕ × Command) ℕ) → may_or
 may_foreign w m (Ok order) e = ap (λ (b : Bool). unless b Refusal.Foreign) e
 may_foreign w m (Err code) e = absurd (true≢false e)
 
--- What keeps an order from being carried out is out of memory, or that it is foreign.
+-- An order that isn't carried out ran out of memory, or is foreign.
 pub order_fault : (w : World) (m : ℕ) (r : Result (ℕ × Command) ℕ) (received : EventError)
     → (received ≡ fault.NoMemory) ⊎ ((received ≡ fault.Foreign) × (may_order w.issued m r ≡ false))
     → IsFaultOf (if_unissued w m r) received

@@ -78,7 +78,7 @@ spreads_on later a b d first then =
           (then.keeps j (omega (arith, l, long)));
     }
 
--- So still no member lacks anything else than what was touched.
+-- After a change as in `Spreads` still no member lacks anything but parts of touched publications.
 pub none_lacks : (n later : Touched) → ((q : Pair) → touches n q ≡ true → touches later q ≡ true)
     → (ms new : List Member) → Spreads later ms new → NoneLacks n ms → NoneLacks later new
 none_lacks n later more ms new on all j l t held off =
@@ -173,7 +173,7 @@ same_at_spreads later ms m there old old_is b stored hidden =
 
 -- ---- where all change
 
--- Who holds a part is at some place.
+-- A part that someone holds is held by a member at some place.
 pub at_holder : (ms : List Member) (t : Part) → someone_holds ms t ≡ true
     → (k : ℕ) × (k < length ms) × (member_holds (get_or ms k no_member) t ≡ true)
 at_holder ms t h =
@@ -181,7 +181,7 @@ at_holder ms t h =
     let k : (k : ℕ) × (k < length ms) × (r.0 ≡ get_or ms k no_member) = at_in ms r.0 no_member r.1 in
     (k.0, k.1, subst (λ (m : Member). member_holds m t ≡ true) k.2 r.2)
 
--- Each stores and hides the same.
+-- Each member stores and hides the same.
 pub each_same_spreads : (later : Touched) (ms new : List MemberState) → length new ≡ length ms
     → ((j : ℕ) → j < length ms → (state_at new j).store ≡ (state_at ms j).store)
     → ((j : ℕ) → j < length ms → (state_at new j).hidden ≡ (state_at ms j).hidden)
@@ -233,7 +233,7 @@ learnt_lacks w n ms =
     })
 
 module _ (w : World) (group : IsSoundGroup w) where
-  -- What comes in a settle is held by someone before.
+  -- What a member holds after a settle someone held before.
   settled_someone : (j : ℕ) (t : Part) → j < length w.members
       → member_holds (settled_member w (member w j)) t ≡ true → someone_holds w.members t ≡ true
   settled_someone j t l h = elim (held_either (new_parts w (member w j)) (member w j) t h) [
@@ -283,7 +283,7 @@ module _ (w : World) (group : IsSoundGroup w) where
         })
   ]
 
-  -- So after a settle nobody lacks anything.
+  -- After a settle nobody lacks anything.
   pub settled_lacks : (n : Touched) (new : List Member) → new ≡ map (settled_member w) w.members → NoneLacks n new
   settled_lacks n new is = subst (NoneLacks n) (sym is) (λ j l t held off.
       let inside : j < length (map (settled_member w) w.members) = l in

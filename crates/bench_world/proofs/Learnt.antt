@@ -1,4 +1,4 @@
--- What all members have learnt in a settle.
+-- Members after each joined all vectors to its own in a settle.
 use Rattle.std.proofs.Common.{◌≡◌, inl, inr, ℕ, suc, zero, ◌≤◌, ◌<◌, List, [], ◌∷◌, map, length, get_or, refl, sym, ap}
 use Rattle.std.proofs.Common.{◌∙◌, subst, arith}
 use Rattle.std.specs.Prelude.{slice_index}
@@ -31,7 +31,7 @@ nobody_there [] j l = refl
 nobody_there (m ∷ ms) zero l = absurd (omega (arith, l))
 nobody_there (m ∷ ms) (suc j) l = nobody_there ms j (omega (arith, l))
 
--- All claims have ended, and each member has learnt what all know.
+-- All claims have ended, and each member has joined all vectors to its own.
 pub record HaveLearnt (g : GroupKeys) (w : World) (members new : List MemberState) : Type 0 where
   pub learnt : in_groups new ≡ map (learnt_member w) w.members
   pub consistent : AreConsistentMembers g (logs w) new
@@ -50,7 +50,7 @@ module _ (g : GroupKeys) (w : World) (are : AreLogs g (logs w)) (group : IsSound
   pub few_members : length members ≤ 16
   few_members = let a = are.width in let b = are.group.members.roster.few in omega (arith, long, a, b)
 
-  -- Before a settle each member is as it was.
+  -- Before a settle each member is partly settled.
   pub partly_none : ArePartlySettled w (in_groups members)
   partly_none = record {
     len = ap length begun;
@@ -156,7 +156,7 @@ module _ (g : GroupKeys) (w : World) (are : AreLogs g (logs w)) (group : IsSound
         counts = learnt_counts;
       }
 
--- What counts stays over two changes.
+-- Sync states and attempts that two changes leave unchanged are unchanged by both together.
 counts_then : (a b c : List MemberState) → AllCountsStay a b → AllCountsStay b c → AllCountsStay a c
 counts_then a b c one two j =
     record { machine = (two j).machine ∙ (one j).machine; attempts = (two j).attempts ∙ (one j).attempts }

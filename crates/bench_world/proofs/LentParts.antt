@@ -1,4 +1,4 @@
--- What members lend is what one of them holds.
+-- Members lend exactly the parts that one of them holds.
 use Rattle.std.proofs.Common.{◌≡◌, inl, inr, ℕ, Bool, true, false, ◌||◌, ◌&&◌, List, [], ◌∷◌, Option, Some}
 use Rattle.std.proofs.Common.{None, refl, sym, ap, ◌∙◌}
 use Rattle.std.proofs.lemmas.Bool.{true≢false, false_from_ne_true, and_parts}

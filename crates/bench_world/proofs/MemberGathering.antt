@@ -1,4 +1,4 @@
--- What a member has gathered is what comes to it in the group's settle, or a part of it.
+-- The parts that a member has gathered are those that it gains in the model's settle, or some of them.
 use Rattle.std.proofs.Common.{◌≡◌, inl, inr, ℕ, ◌≤◌, ◌<◌, Bool, true, false, ◌||◌, not, List, [], ◌∷◌, get_or, length}
 use Rattle.std.proofs.Common.{Option, Some, None, refl, sym, ap, ◌∙◌, subst, arith}
 use Rattle.std.specs.Prelude.{is_some}
@@ -52,7 +52,7 @@ lends_held (a ∷ members) t =
 none_claimed : (t : Part) → list_any (is_claim_of t) no_claims ≡ false
 none_claimed t = refl
 
--- ---- a part of the way
+-- ---- members that are partly settled
 
 module _ (w : World) (group : IsSoundGroup w) (j : ℕ) (there : j < length w.members) where
   module _ (new : Member) (sound : IsSoundMember (logs w) j new) (gathering : IsGathering w (member w j) new) where
@@ -117,7 +117,7 @@ module _ (w : World) (group : IsSoundGroup w) (j : ℕ) (there : j < length w.me
           let e : get_or new.known p 0 ≡ get_or (settled_vector w) p 0 = ap (λ (v : List ℕ). get_or v p 0) known_is in
           omega (arith, e)
 
-  -- So has a member that is as it was.
+  -- A member that is unchanged is partly settled.
   pub partly_begun : IsPartlySettled w (member w j) (member w j)
   partly_begun = record {
     log = refl;
@@ -174,7 +174,7 @@ module _ (g : GroupKeys) (w : World) (group : IsSoundGroup w) (are : AreLogs g (
         (not_from_false (is_claimed (member_plan new) t)
         (ap (λ (x : Member). list_any (is_claim_of t) x.claims) same ∙ none_claimed t))
 
-    -- What it wants nobody holds.
+    -- Nobody holds a part that the member still wants.
     gathered : HasFetchedAll w (in_group new)
     gathered t wanted = elim (cases_Bool (someone_holds w.members t)) [
       | inl someone_ ↦

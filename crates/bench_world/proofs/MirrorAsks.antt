@@ -1,4 +1,4 @@
--- What a mirror asks for, and what comes of it, is what its group says.
+-- What a mirror asks for, and what it receives, is what the model says.
 use Rattle.std.proofs.Common.{◌≡◌, ℕ, ◌+◌, Bool, true, cond, ◌||◌, List, map, take, Option, Some, None, refl, sym, ap}
 use Rattle.std.proofs.Common.{◌∙◌, subst}
 use Rattle.std.specs.Prelude.{◌↔◌, not, is_some, unwrap_or, find, filter, sum, sum_by, slice_index_or}

@@ -1,4 +1,4 @@
--- What a mirror keeps of what came for it.
+-- What a mirror keeps of what was received for it.
 use Rattle.std.proofs.Common.{◌≡◌, inl, inr, ℕ, Bool, true, false, cond, ◌==◌, ◌&&◌, ◌||◌, List, [], ◌∷◌, map}
 use Rattle.std.proofs.Common.{Option, Some, None, refl, sym, ap, ◌∙◌}
 use Rattle.std.specs.Prelude.{is_some, not, option_map, unwrap_or}
@@ -29,7 +29,7 @@ module _ (g : GroupKeys) (logs : Logs) (m : MirrorState) (x : Fetched) (are : Ar
   takes : TakesConsistently g logs (x ∷ []) m
   takes = mirrors_take_consistent g logs m (x ∷ []) are consistent (all_one (FetchForMirror g logs m) x come)
 
-  -- Where it came it is held.
+  -- A part whose packet was received is held.
   held_now : is_some x.packet ≡ true → mirror_holds (mirror_in_group (mirror_takes (x ∷ []) m)) x.part ≡ true
   held_now some =
       takes.held x.part ∙ ap (λ (b : Bool). b || mirror_holds (mirror_in_group m) x.part) came where
@@ -38,7 +38,7 @@ module _ (g : GroupKeys) (logs : Logs) (m : MirrorState) (x : Fetched) (are : Ar
             ap (λ (b : Bool). contains part_cmp (asked_for (cond b (x ∷ []) [])) x.part) some
             ∙ contains_in exact_parts (x.part ∷ []) x.part (inl refl)
 
-  -- It is kept just where its publication is.
+  -- A packet that was received is kept exactly if the mirror's pattern is for the part's publication.
   kept_came : (b : Bool) → is_fetch_for m.pattern x ≡ b → is_some x.packet ≡ true
       → is_for m.pattern logs (pair_of x.part) ≡ b
   kept_came true kept some =

@@ -1,4 +1,4 @@
--- What a mirror fetches leaves it one that holds what was published, and that tried no part too often.
+-- After a fetch a mirror still holds only what was published, and has tried no part too often.
 use Rattle.std.proofs.Common.{◌≡◌, inl, inr, ℕ, suc, ◌+◌, ◌≤◌, ◌<◌, Bool, true, false, cond, List, [], ◌∷◌}
 use Rattle.std.proofs.Common.{length, Option, Some, None, refl, sym, ap, ◌∙◌, subst, arith}
 use Rattle.std.specs.Prelude.{is_some, unwrap_or, find, filter, IfSome}
@@ -34,7 +34,7 @@ use Rattle.bench_world.proofs.NextParts.{all_from_in, next_unclaimed, next_rise}
 
 -- ---- jobs
 
--- There are as many parts as jobs.
+-- There is one result for each job.
 pub many_parts : (g : GroupKeys) (h : HoldingsState) (jobs : List Job) (parts : List (Option CheckedPart)) (ns : List ℕ)
     → AreFetchedOf g h jobs parts ns → length parts ≡ length jobs
 many_parts g h [] [] [] are = refl
@@ -108,7 +108,7 @@ module _ (passes : Part → ℕ → Bool) (others : List MemberState) (tries : �
       from_map (fetched_one passes others tries h) ts x (in_filtered q (fetched_all passes others tries h ts) x i).0 in
       subst (λ (y : Fetched). y.attempts ≡ more y.part) (sym r.2) (each r.0))
 
-  -- However what came is sorted, no part has been tried much more often.
+  -- Whichever results are taken, no part has been tried more than 16 times more often.
   pub tried_once : tries ≤ 16 → (q : Fetched → Bool) (after : Option Part) (ns : List (Part × ℕ)) (t : Part)
       → tries_of (with_all_tries (filter q (fetched_all passes others tries h (next_parts after h))) ns) t
       ≤ tries_of ns t + 16
@@ -124,7 +124,7 @@ module _ (passes : Part → ℕ → Bool) (others : List MemberState) (tries : �
 
   -- ---- packets
 
-  -- What comes of the parts that are asked for comes truly.
+  -- The parts that are asked for are unclaimed, and the packets that are received for them are the published ones.
   module _ (g : GroupKeys) (logs : Logs) (all : AreConsistentMembers g logs others) (after : Option Part) where
     pub fetched_comes : (t : Part) → In t (next_parts after h)
         → FetchForHolder g logs h (fetched_one passes others tries h t)

@@ -1,4 +1,4 @@
--- A mirror that is taken out of all, learns and gathers, and is put back.
+-- A mirror that is taken out from among all, joins a vector to its own, gathers parts, and is put back.
 use Rattle.std.proofs.Common.{◌≡◌, ◌⊎◌, ◌+◌, ℕ, true, false, List, length, get_or, set, refl, sym, ap, ◌∙◌, subst}
 use Rattle.std.specs.List.{remove, insert}
 use Rattle.std.proofs.lemmas.List.{get_or_default}
@@ -28,8 +28,8 @@ use Rattle.bench_world.proofs.MirrorSettling.{has_gained}
 use Rattle.bench_world.proofs.MirrorsLacking.{learnt_has}
 use Rattle.bench_world.proofs.TakenOut.{put_at, put_changed}
 
--- The mirror of a number that had learnt has gathered, the others are as they were, and where nothing was left, it has
--- settled.
+-- Mirror `i`, which had joined the vectors, has gathered parts, and the others are as they were. If the lenders store
+-- nothing more that it wants, it has settled.
 pub record HasGatheredAt (g : GroupKeys) (lenders : List MemberState) (ms new : List MirrorState) (i : ℕ)
     (learnt left : MirrorState) : Type 0 where
   pub others : new ≡ set ms i (mirror_at new i)

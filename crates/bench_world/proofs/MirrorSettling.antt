@@ -56,7 +56,7 @@ gains_of {X} {f} g logs others a b gains = record {
 }
 
 module _ (w : World) where
-  -- Before a settle a mirror is as it was.
+  -- A mirror that is unchanged is partly settled.
   pub partly_same : (m : MirrorState) → IsPartlySettledMirror w m m
   partly_same m = record {
     pattern = refl;
@@ -90,7 +90,7 @@ module _ (g : GroupKeys) (w : World) (are : AreLogs g (logs w)) (group : IsSound
     where
       -- ---- what is learnt
 
-      -- What all know together says of no publication that there isn't.
+      -- The join of all vectors reports only publications that exist.
       pub settled_consistently : IsConsistentVector (logs w) (settled_vector w)
       settled_consistently = elim (cases_lt 0 (length members)) [
         | inl some ↦
@@ -205,7 +205,7 @@ module _ (g : GroupKeys) (w : World) (are : AreLogs g (logs w)) (group : IsSound
 
 -- ---- one mirror after another
 
--- One mirror more has come a part of the way, or has settled.
+-- One more mirror is partly settled, or has settled.
 pub record HasOneMore (g : GroupKeys) (w : World) (begun : List MirrorState) (j : ℕ) (ms new : List MirrorState)
     : Type 0 where
   pub len : length new ≡ length begun

@@ -30,7 +30,7 @@ all_at : (P : MirrorState → Type 0) (ms : List MirrorState) → ((i : ℕ) →
 all_at P ms each k d l = subst P (get_or_default ms k no_mirror d l) (each k l)
 
 module _ (s : GroupState) (is : IsConsistentState s) where
-  -- Mirrors that have come a part of the way, or all of it.
+  -- A sound world is sound with consistent mirrors that are partly settled.
   pub settled_mirrors : (w : World) (ms : List MirrorState) → length ms ≡ length s.mirrors
       → ((i : ℕ) → i < length ms → IsConsistentMirror s.keys (logs_around s.members) (mirror_at ms i))
       → ArePartlySettledMirrors w s.mirrors ms → IsConsistentState (record s { mirrors = ms })

@@ -57,7 +57,7 @@ mirrors_lack n later more members new no_more ms all i l t held off asked =
 
 -- ---- one mirror
 
--- It keeps its pattern, and goes on to hold, or to have passed over, what it did.
+-- A mirror keeps its pattern, and still holds, or has still passed over, what it did.
 pub record KeepsAll (old new : MirrorState) : Type 0 where
   pub pattern : new.pattern ≡ old.pattern
   pub kept : (t : Part) → mirror_holds (mirror_in_group old) t ≡ true → mirror_holds (mirror_in_group new) t ≡ true
@@ -71,11 +71,11 @@ keeps_lacking n held old new keeps none t h off asked =
       | inr passed ↦ inr (keeps.passed (pair_of t) passed)
     ]
 
--- So it does where it learns.
+-- A mirror that joins a vector to its own still holds all that it did, and keeps its pattern.
 learns_keeps : (received : List ℕ) (old : MirrorState) → KeepsAll old (mirror_learns received old)
 learns_keeps received old = record { pattern = refl; kept = λ t h. h; passed = λ pair h. h }
 
--- One of the mirrors changes so.
+-- If one mirror changes and still holds all that it did, the mirrors lack no more.
 set_mirror_lacks : (n : Touched) (members : List Member) (ms : List MirrorState) (i : ℕ) → i < length ms
     → (b : MirrorState) → KeepsAll (mirror_at ms i) b → MirrorsLackNone n members ms
     → MirrorsLackNone n members (set ms i b)

@@ -70,7 +70,8 @@ module _ (n : ℕ) where
     of_claim f None publisher = there
     of_claim f (Some t) publisher = (there, publisher t refl)
 
-    of_loss : (f : ℕ) (o : Option Part) → ((t : Part) → o ≡ Some t → t.publisher < n) → NamesInRange n (lost_report m f o)
+    of_loss : (f : ℕ) (o : Option Part) → ((t : Part) → o ≡ Some t → t.publisher < n)
+        → NamesInRange n (lost_report m f o)
     of_loss f None publisher = tt
     of_loss f (Some t) publisher = (there, publisher t refl)
 
@@ -143,7 +144,7 @@ module _ (n : ℕ) where
         of_wanted m there t
         ((tests_those (logs w) (member w m) t (records m there)).0 (is.claimed (f - 1) t claimed))
 
-    -- So is that of each entry.
+    -- The publisher of each entry of a catalogue is a member.
     of_entries : (m : ℕ) → All (λ (e : Entry). e.publisher < n) (catalogue_at w m)
     of_entries m =
         All-map (λ (e : Entry). e.publisher < n) published_entry (catalogued (logs w) (member w m))

@@ -50,7 +50,7 @@ same_lacks u mirrors ms m there old old_is b stored hidden =
     nobody_lacks u u None (nothing_noted u) (in_groups ms) (in_groups (set ms m b))
     (λ n l notes. same_at_spreads l ms m there old old_is b stored hidden) mirrors
 
--- So it is where each does.
+-- Where every member goes on to store and hide the same, nobody lacks more.
 pub alike_lacks : (u : Unsettled) (mirrors : List MirrorState) (ms new : List MemberState) → length new ≡ length ms
     → ((j : ℕ) → j < length ms → (state_at new j).store ≡ (state_at ms j).store)
     → ((j : ℕ) → j < length ms → (state_at new j).hidden ≡ (state_at ms j).hidden)
@@ -94,7 +94,7 @@ module _ (s : GroupState) (m : ℕ) (there : m < length s.members) where
 
   module _ (u : Unsettled) (lacks : NobodyLacks u (in_groups s.members) s.mirrors)
       (new : List MemberState) where
-    -- What came for a claim is noted.
+    -- What is received for a claim is noted.
     pub came_lacks : (later : Unsettled) (claim : Option Part) → NotesBoth u (option_map pair_of claim) later
         → (f : ℕ) (env : Environment) (tally : Tally) (o : Option Part) (k : Response) → claim ≡ o
         → in_groups new ≡ (after_response env (record (world_of s) { tally = tally }) m f o k).members
@@ -107,7 +107,7 @@ module _ (s : GroupState) (m : ℕ) (there : m < length s.members) where
         (subst (λ (x : Option Part). NotesAny n (option_map pair_of x) l) same noted)))
         s.mirrors lacks
 
-    -- Nothing is noted where nothing comes to be held but what someone held.
+    -- Nothing is noted where members gain only parts that someone held.
     pub nothing_lacks : (after : World) → in_groups new ≡ after.members
         → ((n : Touched) → Spreads n (in_groups s.members) after.members) → NobodyLacks u (in_groups new) s.mirrors
     nothing_lacks after is on =

@@ -36,7 +36,7 @@ module _ (mid : List MemberState) (j : ℕ) (inside : j < length mid) (b : Membe
     | inr other ↦ set_away i other ∙ done i (omega (arith, l, other))
   ]
 
--- One more has reported.
+-- The list has the sync Interest of one more member.
 pub received_pushed : (g : GroupKeys) (syncs more : List MemberSync) (one : MemberSync) (members : List MemberState)
     (i : ℕ) (item : MemberState)
     → i < length members → item ≡ get_or members i item → more ≡ syncs ++ one ∷ [] → sent_sync one ≡ tells g item

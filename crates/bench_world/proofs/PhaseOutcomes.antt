@@ -1,4 +1,4 @@
--- What a phase brings for the parts that who holds others asks for.
+-- The results of a phase, for the parts that a holder asks members for.
 use Rattle.std.proofs.Common.{◌≡◌, inl, inr, ℕ, suc, zero, ◌+◌, ◌≤◌, ◌<◌, Bool, true, false, cond, ◌==◌, List, [], ◌∷◌}
 use Rattle.std.proofs.Common.{map, length, replicate, Option, Some, None, refl, sym, ap, ◌∙◌, subst, arith}
 use Rattle.std.specs.Prelude.{nat_le, is_some, unwrap_or, find, filter, option_map, slice_get, sum_by, IfSome, IsOk}
@@ -77,7 +77,7 @@ module _ (g : GroupKeys) (logs : Logs) where
   stored_consistent (m ∷ ms) (suc k) t octets consistent e = stored_consistent ms k t octets
       (λ j l. consistent (suc j) (omega (arith, l))) e
 
-  -- Whoever is asked first, what is lent is the same.
+  -- The packet that is lent is the same whether or not the publisher is asked first.
   pub first_is_lent : (others : List MemberState) (asker : ℕ) (t : Part) → AreConsistentMembers g logs others
       → lent_first others asker t ≡ lent others t
   first_is_lent others asker t consistent =
@@ -134,7 +134,7 @@ module _ (answer : WantedPart → ℕ → Option (List ℕ)) (g : GroupKeys) (tr
   were_tried (j ∷ js) [] ns can f = absurd f
   were_tried (j ∷ js) (p ∷ ps) [] can f = absurd f
 
-  -- So it can where no attempt is counted.
+  -- The results of jobs can be taken where no attempt is counted.
   pub none_counted : (jobs : List Job) (parts : List (Option CheckedPart)) (ns : List ℕ)
       → All (CanBeTried (length g.members.ring) tries) jobs → AreFirst answer g.members.ring tries jobs parts ns
       → WereChecked g jobs parts (replicate (length jobs) 0)
@@ -158,7 +158,7 @@ module _ (answer : WantedPart → ℕ → Option (List ℕ)) (g : GroupKeys) (tr
   first_lengths (j ∷ js) [] ns f = absurd f
   first_lengths (j ∷ js) (p ∷ ps) [] f = absurd f
 
--- ---- how much came
+-- ---- how much was received
 
 pub counted : (jobs : List Job) (parts : List (Option CheckedPart)) (ns : List ℕ) → length parts ≡ length jobs
     → length ns ≡ length jobs → length (filter is_some parts) ≡ length (parts_fetched (outcome_of jobs parts ns))
@@ -246,7 +246,7 @@ module _ (passes : ℕ → ℕ → ℕ → ℕ → ℕ → ℕ → Bool) (g : Gr
   octets_if false c octets e = refl
 
   module _ (tries : ℕ) where
-    -- What comes of one part.
+    -- The result of one part is that of `fetched_one`.
     one_comes : (t : Part) → is_wanted (held_plan h) t ≡ true → (part : Option CheckedPart) (n : ℕ)
         → IsFirst (packet_at answer g.members.ring (job t)) tries part n
         → (option_map (λ c. c.octets) part ≡ (fetched_one (attempt_passes passes asker loss) others tries h t).packet)
@@ -302,7 +302,7 @@ module _ (passes : ℕ → ℕ → ℕ → ℕ → ℕ → ℕ → Bool) (g : Gr
             r.1,
           )
 
-    -- What comes of all.
+    -- The results of all parts are those of `fetched_all`.
     pub fetched_is : (ts : List Part) → ((t : Part) → In t ts → is_wanted (held_plan h) t ≡ true)
         → (parts : List (Option CheckedPart)) (ns : List ℕ)
         → AreFirst answer g.members.ring tries (map job ts) parts ns
@@ -320,7 +320,7 @@ module _ (passes : ℕ → ℕ → ℕ → ℕ → ℕ → ℕ → Bool) (g : Gr
         let rest = fetched_is ts (λ u i. w u (inr i)) ps ns f.1 in
         λ i. record { part = part i; packet = packet i; attempts = attempts i } ∷ rest i
 
-  -- Where every attempt comes through, one is enough.
+  -- Where every attempt passes, one is enough.
   through : loss ≡ None → (t : Part)
       → (fetched_one (attempt_passes passes asker loss) others 1 h t).packet ≡ lent others t
   through e t =
@@ -346,7 +346,7 @@ module _ (passes : ℕ → ℕ → ℕ → ℕ → ℕ → ℕ → Bool) (g : Gr
       let rest = lent_is e ts (λ u i. w u (inr i)) ps ns f.1 in
       λ i. record { part = part i; packet = packet i; attempts = 0 } ∷ rest i
 
--- ---- the parts that came
+-- ---- the parts that were received
 
 pub came_lent : (others : List MemberState) (ts : List Part)
     → parts_fetched (lent_all others ts) ≡ filter (lends others) ts

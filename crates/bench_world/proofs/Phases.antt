@@ -39,12 +39,12 @@ use Rattle.bench_world.proofs.PhaseOutcomes.{lends_consistent, were_tried, none_
 use Rattle.bench_world.proofs.PhaseOutcomes.{octets_sum}
 use Rattle.bench_world.proofs.PhaseOutcomes.{fetched_is, lent_is, came_lent, want_part}
 
--- What came where something passed is that.
+-- If a packet that is passed on under a condition is there, it is that packet.
 pub from_packet : (b : Bool) (o : Option (List ℕ)) (octets : List ℕ) → cond b o None ≡ Some octets → o ≡ Some octets
 from_packet true o octets e = e
 from_packet false o octets e = absurd cc
 
--- What came of a fetch's phase, and how often each part was tried.
+-- The outcome of a fetch's phase, and how often each part was tried.
 pub record FetchComes (g : GroupKeys) (logs : Logs) (h : HoldingsState) (came : List Fetched) (jobs : List Job)
     (values : List (Option CheckedPart)) (counts : List ℕ) : Type 0 where
   pub outcome : IsOutcomeOf g h jobs values counts
@@ -54,7 +54,7 @@ pub record FetchComes (g : GroupKeys) (logs : Logs) (h : HoldingsState) (came : 
   pub attempts : counts ≡ map (λ (x : Fetched). x.attempts) came
   pub many : length counts ≡ length jobs
 
--- What came of a phase of a settle, in which no attempt is counted.
+-- The outcome of a phase of a settle, in which no attempt is counted.
 pub record GatherComes (g : GroupKeys) (logs : Logs) (h : HoldingsState) (others : List MemberState) (ts : List Part)
     (jobs : List Job) (values : List (Option CheckedPart)) (zeros : List ℕ) : Type 0 where
   pub outcome : IsOutcomeOf g h jobs values zeros

@@ -1,4 +1,4 @@
--- What phases and rounds make of who gathers.
+-- What phases and rounds make of a holder that gathers parts.
 use Rattle.std.proofs.Common.{◌≡◌, inl, inr, ℕ, ◌+◌, ◌*◌, ◌≤◌, ◌<◌, true, false, ◌||◌, ◌&&◌, List, length, Option, Some}
 use Rattle.std.proofs.Common.{None, refl, sym, ap, ◌∙◌, subst, arith}
 use Rattle.std.specs.Prelude.{is_some, unwrap_or, filter, sum_by, slice_index, slice_index_or, nat_le, IfSome}
@@ -72,7 +72,7 @@ module _ {H : Type 0} (words : HolderPredicates H) (holders : AreHolders words) 
         let most : length (words.held s) ≤ length (all_parts logs) = few_stored s consistent in
         omega (arith, sum, most)
 
-  -- What was tried few times is still.
+  -- A holder that has tried each part few times still has, after it gained parts.
   pub tried_still : (g : GroupKeys) (logs : Logs) (others : List MemberState) (a b : H)
       → GainsParts words g logs others a b → TriedFew (words.holdings a) → TriedFew (words.holdings b)
   tried_still g logs others a b gains few t =
@@ -83,7 +83,7 @@ module _ {H : Type 0} (words : HolderPredicates H) (holders : AreHolders words) 
       ap (λ (ns : List (Part × ℕ)). unwrap_or (value_of part_cmp ns t) 0) tried in
       omega (arith, h, e)
 
-  -- It still lacks nothing but parts of what was touched.
+  -- A holder that lacks only parts of touched publications still does, after it gained parts.
   pub lacks_still : (n : Touched) (g : GroupKeys) (logs : Logs) (others : List MemberState) (a b : H)
       → GainsParts words g logs others a b → LacksOnlyTouched words n others a → LacksOnlyTouched words n others b
   lacks_still n g logs others a b gains lacks t lent off known =
@@ -100,7 +100,7 @@ module _ {H : Type 0} (words : HolderPredicates H) (holders : AreHolders words) 
 
     module _ (a : H) (consistent : words.is_consistent g logs a) (ts : List Part)
         (all_open : (t : Part) → In t ts → is_unclaimed (held_plan (words.holdings a)) t ≡ true) where
-      -- What is lent comes truly.
+      -- The parts of a phase are unclaimed, and the packets that are lent for them are the published ones.
       come : All (FetchForHolder g logs (words.holdings a)) (lent_all others ts)
       come = all_from_in (FetchForHolder g logs (words.holdings a)) (lent_all others ts) (λ x i.
           let r : (t : Part) × (In t ts) × (x ≡ lent_one others t) = from_map (lent_one others) ts x i in
@@ -154,7 +154,7 @@ module _ {H : Type 0} (words : HolderPredicates H) (holders : AreHolders words) 
           (and_parts (is_wanted (held_plan (words.holdings a)) t) _
           (all_open t (in_filtered (lends others) ts t i).0)).0
 
-      -- What is held grows by what came, however parts count.
+      -- The sum of the weights of held parts grows by that of the lent parts.
       pub phase_counts : (weight : Part → ℕ) → Rises part_cmp ts
           → Counts words weight (sum_by weight (filter (lends others) ts)) a (words.takes (lent_all others ts) a)
       phase_counts weight rise =

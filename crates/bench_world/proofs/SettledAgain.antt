@@ -1,4 +1,4 @@
--- A settle that is made again leaves what the one that failed would have left.
+-- A settle that is made again leaves what the settle that ran out of memory would have left.
 use Rattle.std.proofs.Common.{◌≡◌, ◌⊎◌, inl, inr, ℕ, suc, ◌≤◌, ◌<◌, true, false, List, [], ◌∷◌, map, get_or, length}
 use Rattle.std.proofs.Common.{sym, ap, ◌∙◌, subst, arith}
 use Rattle.std.proofs.lemmas.Bool.{true≢false, cases_Bool, or_cases}
@@ -37,7 +37,7 @@ someone_is (m ∷ ms) t h = elim (or_cases (member_holds m t) (someone_holds ms 
   | inr there ↦ let r = someone_is ms t there in (suc r.0, omega (arith, r.1), r.2)
 ]
 
--- What a member comes to hold in a settle it held, or someone did.
+-- A part that a member holds after a settle it held before, or someone did.
 holder_packet_response : (w : World) (m : Member) (t : Part) → member_holds (settled_member w m) t ≡ true
     → (member_holds m t ≡ true) ⊎ (someone_holds w.members t ≡ true)
 holder_packet_response w m t h = elim (cases_Bool (member_holds m t)) [
@@ -61,7 +61,7 @@ module _ (w : World) (new : List Member) (group : IsSoundGroup w) (partly : AreP
       get_or-map (λ (m : Member). m.log) new i no_member [] inside_new ∙ (partly.each i inside).log
       ∙ sym (get_or-map (λ (m : Member). m.log) w.members i no_member [] inside))
 
-  -- Who held a part then holds it now, and who holds it now holds it then or later.
+  -- A part that someone held before the settle that ran out of memory, someone holds after it.
   someone_still : (t : Part) → someone_holds w.members t ≡ true → someone_holds new t ≡ true
   someone_still t h =
       let r = someone_is w.members t h in
@@ -90,7 +90,7 @@ module _ (w : World) (new : List Member) (group : IsSoundGroup w) (partly : AreP
     sound : IsSoundMember (logs w) j then
     sound = subst (λ (ls : Logs). IsSoundMember ls j then) logs_same sound_new
 
-    -- All come to know the same.
+    -- The join of all members' vectors is the same in both worlds.
     vector_same : settled_vector stopped ≡ settled_vector w
     vector_same =
         ext_get_or 0 (settled_vector stopped) (settled_vector w)

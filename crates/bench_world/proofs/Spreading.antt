@@ -40,7 +40,7 @@ use Rattle.bench_world.specs.Touching.{touches, NotesAny}
 use Rattle.bench_world.proofs.Lacking.{KeepsHeld, same_kept, kept_on, Spreads, same_spreads, spreads_on, set_spreads}
 use Rattle.bench_world.proofs.Lacking.{in_set, here_someone}
 
--- What was noted before is noted still.
+-- What was noted before is still noted.
 pub any_more : (n : Touched) (o : Option Pair) (later : Touched) → NotesAny n o later
     → (q : Pair) → touches n q ≡ true → touches later q ≡ true
 any_more n None later notes = notes
@@ -83,7 +83,7 @@ hides_less (p ∷ ps) m t h =
 -- ---- one member
 
 module _ (later : Touched) (w : World) (j : ℕ) (inside : j < length w.members) where
-  -- It holds and hides the same.
+  -- The member of number `j` still holds and hides the same.
   alike_spreads : (b : Member) → b.held ≡ (member w j).held → b.hidden ≡ (member w j).hidden
       → Spreads later w.members (set w.members j b)
   alike_spreads b held hidden =
@@ -106,7 +106,7 @@ module _ (later : Touched) (w : World) (j : ℕ) (inside : j < length w.members)
       ])
       (record { held = λ u h. inl (held_too (t ∷ []) (member w j) u h); hidden = λ q h. h })
 
-  -- What came for a claim is noted.
+  -- What is received for a claim is noted.
   pub came_spreads : (env : Environment) (f : ℕ) (o : Option Part) (k : Response) (n : Touched)
       → NotesAny n (option_map pair_of o) later → Spreads later w.members (after_response env w j f o k).members
   came_spreads env f None k n notes = same_spreads later w.members
@@ -114,7 +114,7 @@ module _ (later : Touched) (w : World) (j : ℕ) (inside : j < length w.members)
   came_spreads env f (Some t) Its n notes = part_spreads f t notes.there
   came_spreads env f (Some t) Another n notes = part_spreads f t notes.there
 
-  -- What a fetch brings was held by others.
+  -- What a fetch brings was held by other members.
   pub fetch_spreads : (env : Environment) (tries loss : ℕ)
       → Spreads later w.members (after_fetch env w j tries loss).members
   fetch_spreads env tries loss =
@@ -141,7 +141,7 @@ module _ (later : Touched) (w : World) (j : ℕ) (inside : j < length w.members)
             → someone_holds (others_of w j) t ≡ true
         lent t h = go (someone_holds (others_of w j) t) _ h
 
-  -- A command brings nothing.
+  -- No member gains a part by a command.
   pub command_spreads : (command : Command) → Spreads later w.members (after_command w j command).members
   command_spreads (Insert name first last) = go (can_start (member w j)) where
     go : (b : Bool) → Spreads later w.members
@@ -182,14 +182,14 @@ module _ (later : Touched) (w : World) (j : ℕ) (inside : j < length w.members)
         made : List Part
         made = parts_of (j, length (member w j).log + 1) (last_part (shape_in post))
 
--- A command that a client makes brings nothing either.
+-- No member gains a part by a command that a client makes.
 pub issue_spreads : (later : Touched) (w : World) (j : ℕ) → j < length w.members → (client : ℕ) (command : Command)
     → Spreads later w.members (after_issue w j client command).members
 issue_spreads later w j inside client command =
     let made : Issued = record { member = j; client = client; command = command } in
     command_spreads later (record w { issued = w.issued ++ made ∷ [] }) j inside command
 
--- A block publishes what is noted, or brings nothing.
+-- A block publishes an object that is noted, or no member gains a part by it.
 pub block_spreads : (later : Touched) (w : World) (j : ℕ) → j < length w.members → (env : Environment) (process : ℕ)
     (x : BlockState)
     → ((p : Process) → x ≡ Whole p → touches later (j, length (member w j).log + 1) ≡ true)

@@ -209,7 +209,7 @@ module _ (s : GroupState) (is : IsConsistentState s) where
     pub within_more : IsWithinSteps (s.steps + 1) (after_event env (world_of s) e)
     within_more = within_after env s.steps (world_of s) e is.steps few_here small range is.within
 
-    -- After an event that publishes nothing.
+    -- An event that publishes nothing and leaves members consistent leaves the world sound.
     pub stepped : (members : List MemberState) (sent : List SentPacket) (time : ℕ) (tally : Tally)
         → length members ≡ length s.members → MembersAreNumbered members
         → AreConsistentMembers s.keys (logs_around s.members) members
@@ -228,7 +228,7 @@ module _ (s : GroupState) (is : IsConsistentState s) where
         changed_state members sent time tally (s.steps + 1) len numbers all syncs (omega arith) (omega (arith, few))
         (subst (IsWithinSteps (s.steps + 1)) (sym world_is) within_more)
 
-    -- The same where one member has changed.
+    -- An event that publishes nothing and changes one member, which stays consistent, leaves the world sound.
     pub stepped_at : (m : ℕ) → m < length s.members → (b : MemberState) → b.number ≡ m
         → IsConsistentMember s.keys (logs_around s.members) b → (sent : List SentPacket) (time : ℕ) (tally : Tally)
         → All (IsConsistentSync s.keys (logs_around s.members)) sent

@@ -1,4 +1,4 @@
--- What events come to, by the clauses of the methods that carry them out.
+-- What events make of a world, by the clauses of the methods that carry them out.
 use Rattle.std.proofs.Common.{◌≡◌, length, sym, subst}
 use Rattle.std.specs.Prelude.{Result, Ok, Err, IfOk, OnOk}
 use Rattle.group_model.specs.World.{Environment}
@@ -10,7 +10,7 @@ use Rattle.bench_world.specs.Steps.{NamesInRange}
 use Rattle.bench_world.specs.CarryingOut.{HasCarriedOut, IsReportOf}
 use Rattle.bench_world.specs.Worlds.{GroupState, world_of}
 
--- An event that is this one comes to what this one does.
+-- The step of an event is that of an equal one.
 pub of_event : (env : Environment) (event e : EventValue) (old : GroupState) (r : Result Happened EventError)
     (new : GroupState) → event ≡ e → IsStep env e old r new → IsStep env event old r new
 of_event env event e old r new is = subst (λ (x : EventValue). IsStep env x old r new) (sym is)
@@ -22,7 +22,7 @@ carried_out env e old (Ok happened) new made =
     record { taken = made.taken; world = made.world; joined = made.joined; steps = made.steps }
 carried_out env e old (Err fault) new made = tt
 
--- What is reported of it names all members, as what the model reports does.
+-- The report of a step is the model's, and names members as that does.
 pub is_reported : (env : Environment) (e : EventValue) (old : GroupState) (r : Result Happened EventError)
     (new : GroupState) → IsStep env e old r new
     → NamesInRange (length old.keys.members.names) (event_report old.keys env (world_of old) e)

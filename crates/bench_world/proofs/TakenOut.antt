@@ -17,14 +17,14 @@ module _ {A : Type 0} where
   same_place (m ∷ ms) zero x l = refl
   same_place (m ∷ ms) (suc j) x l = ap (λ (xs : List A). m ∷ xs) (same_place ms j x (omega (arith, l)))
 
-  -- It is put back.
+  -- An element that was taken out and is put back, changed, is set in its place.
   pub put_in : (ms mid new : List A) (j : ℕ) (x : A) → j < length ms → mid ≡ remove ms j → new ≡ insert mid j x
       → new ≡ set ms j x
   put_in ms mid new j x l a b = b ∙ ap (λ (xs : List A). insert xs j x) a ∙ same_place ms j x l
 
   module _ (none : A) (ms mid new : List A) (j : ℕ) (x : A) (there : j < length ms) (taken : mid ≡ remove ms j)
       (put : new ≡ insert mid j x) where
-    -- It stands where it stood, and the others as they did.
+    -- The element that is put back stands where it stood, and the others as they did.
     pub put_at : get_or new j none ≡ x
     put_at =
         ap (λ (xs : List A). get_or xs j none) (put_in ms mid new j x there taken put)
@@ -33,7 +33,7 @@ module _ {A : Type 0} where
     pub put_changed : new ≡ set ms j (get_or new j none)
     put_changed = put_in ms mid new j x there taken put ∙ ap (set ms j) (sym put_at)
 
-    -- As it was.
+    -- If it is put back unchanged, the list is as it was.
     pub put_back : x ≡ get_or ms j none → new ≡ ms
     put_back same = put_in ms mid new j x there taken put ∙ ap (set ms j) same ∙ set-get_or ms j none
 
@@ -58,7 +58,7 @@ module _ (ms others : List MemberState) (j : ℕ) (there : j < length ms) (are :
         ∙ get_or-remove_above ms j nobody (i - 1) (omega (arith, above, apart)) there ∙ ap (state_at ms) next
   ]
 
-  -- Who is asked is the member of the number, the one that was taken out too.
+  -- The member that is asked is the one of the number, also if it is the one that was taken out.
   pub lender_is : (i : ℕ) (x : MemberState) → x ≡ state_at ms j → lender_of x (other_at j others i) ≡ state_at ms i
   lender_is i x x_is = elim (cases_eq i j) [
     | inl same ↦

@@ -1,5 +1,4 @@
--- That what is claimed can be had, where the packets of index packets and segments are known by their names and
--- digests.
+-- Claimed parts can be had, where index packets and segments are identified by their names and digests.
 use Rattle.std.specs.Prelude.{◌≡◌, ℕ, ◌<◌, ◌⊎◌, true, length, Some, None}
 use Rattle.repo_plan.specs.declared.part.Part.{Part}
 use Rattle.repo_plan.specs.Parts.{Pair, pair_of}
@@ -19,23 +18,24 @@ use Rattle.bench_world.specs.EventValues.{EventValue, ReportValue, event_report}
 abbrev pub published_at : GroupKeys → Logs → Pair → Published
 published_at g logs pair = record { publisher = publisher_at g pair.0; seq = pair.1; post = post_at logs pair }
 
--- Packets of index packets and segments that have one name and one digest are the same.
+-- Index packets and segments with the same name and the same digest are the same.
 abbrev pub AreAllCollisionFree : GroupKeys → Logs → Type 0
 AreAllCollisionFree g logs = IsCollisionFree (published_at g logs)
 
--- An answer is taken, and kept.
+-- The answer of member `q` for the claim of the fetcher `f` of member `j` isn't refused, and is kept.
 pub record IsAnswerStored (s : GroupState) (j f q : ℕ) : Type 0 where
   pub taken : refusal (lossless s.keys) (world_of s) (group.Event.Answer j f q) ≡ None
   pub report : event_report s.keys (lossless s.keys) (world_of s) (EventValue.Answer j f q) ≡ ReportValue.AnswerKept j f
 
--- So is one from a member that holds the claimed part.
+-- The answer of a member that holds the claimed part is kept, where publications are free of collisions.
 abbrev pub HoldersCanAnswer : GroupState → Type 0
 HoldersCanAnswer s =
     AreAllCollisionFree s.keys (logs (world_of s)) → (j f q : ℕ) (t : Part) → j < length s.members → q
     < length s.members
     → claim_at (world_of s) j f ≡ Some t → member_holds (member (world_of s) q) t ≡ true → IsAnswerStored s j f q
 
--- So a claimed part can be had from its publisher, unless that has deleted its publication.
+-- The answer of the publisher of the claimed part is kept, where publications are free of collisions, unless the
+-- publisher has deleted the publication.
 abbrev pub PublishersCanAnswer : GroupState → Type 0
 PublishersCanAnswer s = AreAllCollisionFree s.keys (logs (world_of s)) → (j f : ℕ) (t : Part) → j < length s.members
     → claim_at (world_of s) j f ≡ Some t

@@ -6,7 +6,7 @@ use Rattle.repo_member.specs.declared.member.block.Blocked.TheVariants as blocke
 use Rattle.bench_world.specs.EventValues.{ReportValue}
 use Rattle.bench_world.specs.EventValues.ReportValue.{Block404, Block200, Block300, BlockPublished}
 
--- What is sent then, where what the member knew before is this vector.
+-- The packets that were sent, after a block of member `m`, whose vector was `vector` before.
 abbrev pub after_blocked : ℕ → List ℕ → Blocked → List SentPacket → List SentPacket
 after_blocked m vector blocked.Unknown sent = sent
 after_blocked m vector blocked.Waiting sent = sent
@@ -14,7 +14,7 @@ after_blocked m vector blocked.Already sent = sent
 after_blocked m vector (blocked.Published published) sent =
     sent ++ sent_packet m (slice_set vector m published.seq) published.sync.items ∷ []
 
--- The report of it, where the next sync Interest has this number.
+-- The report of a block of member `m`, where the next sync Interest has the number `k`.
 abbrev pub blocked_report : ℕ → ℕ → Blocked → ReportValue
 blocked_report m k blocked.Unknown = Block404 m
 blocked_report m k blocked.Waiting = Block300 m

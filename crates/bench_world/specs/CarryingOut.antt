@@ -9,26 +9,27 @@ use Rattle.bench_world.specs.Steps.{EventInRange, NamesClient, NamesInRange}
 use Rattle.bench_world.specs.Runs.{JoinsAfter, ListLawFrom, event_values, group_events}
 use Rattle.bench_world.specs.Worlds.{GroupState, world_of}
 
--- An event names members and clients of so many.
+-- The event can be carried out in a group of `of_members` members and `of_clients` clients.
 pub record EventFits (of_members of_clients : ℕ) (e : EventValue) : Type 0 where
   pub ready : EventInRange of_members e
   pub clients : NamesClient of_clients e
 
--- The event is none that the group refuses, and the group after it is the model's. It is a step. After a settle, where
--- nothing is hidden, each catalogue is the join of all publications.
+-- The event was carried out: the group doesn't refuse it, the world after it is the model's, and it counts as a step.
+-- After a settle, where nothing is deleted, each catalogue is the join of all publications.
 pub record HasCarriedOut (env : Environment) (e : EventValue) (old new : GroupState) : Type 0 where
   pub taken : refusal env (world_of old) (group_event old.keys e) ≡ None
   pub world : world_of new ≡ after_event env (world_of old) (group_event old.keys e)
   pub joined : JoinsAfter e (world_of new)
   pub steps : new.steps ≡ old.steps + 1
 
--- What is reported of an event is what the model reports of it. Each member that it names has the number of one.
+-- The report of the event is the model's, and each member that it names exists.
 pub record IsReportOf (env : Environment) (e : EventValue) (old : GroupState) (what : ReportValue) : Type 0 where
   pub report : what ≡ event_report old.keys env (world_of old) e
   pub all : NamesInRange (length old.keys.members.names) what
 
--- The same of events, one after another, each a step. Where the later ones publish nothing and tell all members of all,
--- and nothing is wanted or hidden in the end, each catalogue is the join of all publications.
+-- The events were carried out one after another, each as a step: the group refuses none, and the world after them is
+-- the model's. Where the later ones publish nothing and inform each member of all that each other has published, and
+-- nothing is wanted or deleted in the end, each catalogue is the join of all publications.
 pub record HaveCarriedOut (env : Environment) (events : List Event) (old new : GroupState) : Type 0 where
   pub taken : EventsAreTaken env (world_of old) (group_events old.keys (event_values events))
   pub world : world_of new ≡ after_events env (world_of old) (group_events old.keys (event_values events))

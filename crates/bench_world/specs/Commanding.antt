@@ -8,20 +8,21 @@ use Rattle.group_model.specs.World.{Issued}
 use Rattle.group_model.specs.Steps.{after_issue, command_answer}
 use Rattle.bench_world.specs.Worlds.{GroupState, world_of}
 
--- This is the command of a client for a member.
+-- The issued command `i` has the member, the client and the command of `order`.
 abbrev pub is_that : ℕ × ℕ × Command → Issued → Bool
 is_that order i = i.member == order.0 && (i.client == order.1 && is_equal_command i.command order.2)
 
--- The client made that command for the member.
+-- The client of `order` made its command for member `m`.
 abbrev pub is_issued : List Issued → ℕ → ℕ × Command → Bool
 is_issued issued m order = list_any (is_that (m, order.0, order.1)) issued
 
--- An order that passes is one that its client made.
+-- The order was refused with a code, or its client made its command for member `m`.
 abbrev pub may_order : List Issued → ℕ → Result (ℕ × Command) ℕ → Bool
 may_order issued m (Ok order) = is_issued issued m order
 may_order issued m (Err code) = true
 
--- A client made a command for a member, and this is answered. It counts as a step, and leaves keys and mirrors alone.
+-- A client made a command for member `m`, which answered `given`. This counts as a step; keys and mirrors are
+-- unchanged.
 pub record IsIssued (old : GroupState) (m client : ℕ) (command : Command) (new : GroupState) (given : Answer)
     : Type 0 where
   pub world : world_of new ≡ after_issue (world_of old) m client command

@@ -1,4 +1,4 @@
--- What the packet of a claim, a fetch and a settle need of their members, and a fetch and a settle of their workers.
+-- The conditions of claims, fetches and settles: of members, of mirrors, and of the number of workers.
 use Rattle.std.specs.Prelude.{ℕ, ◌≡◌, ◌≤◌, ◌<◌, List, length, map, Option, Some, None}
 use Rattle.repo_plan.specs.declared.part.Part.{Part}
 use Rattle.repo_plan.specs.Calls.{IsFetcher}
@@ -28,20 +28,20 @@ use Rattle.bench_world.specs.Worlds.{AreConsistentMembers, MembersAreNumbered}
 
 -- ---- a fetcher's claim
 
--- Octets are compared with the packet of a published part, which its publisher has.
+-- Octets can be compared with the packet of the part `t`: the part was published, and the member `p` is its publisher.
 pub record CanCompare (g : GroupKeys) (ls : Logs) (p : MemberState) (t : Part) : Type 0 where
   pub logs : AreLogs g ls
   pub publisher : IsConsistentMember g ls p
   pub number : p.number ≡ t.publisher
   pub part : IsPublishedPart ls t
 
--- A member's fetcher may claim a part.
+-- The member `a` is consistent with its group, and `f` is the number of one of its fetchers.
 pub record CanWant (g : GroupKeys) (ls : Logs) (f : ℕ) (a : MemberState) : Type 0 where
   pub logs : AreLogs g ls
   pub consistent : IsConsistentMember g ls a
   pub fetcher : IsFetcher f
 
--- It claims the part of this want, which this publisher has.
+-- The fetcher `f` of the member `a` claims the part of the want `w`, and the member `p` is the publisher of that part.
 pub record CanAccept (g : GroupKeys) (ls : Logs) (f : ℕ) (w : WantedPart) (p a : MemberState) : Type 0 where
   pub logs : AreLogs g ls
   pub publisher : IsConsistentMember g ls p
@@ -51,7 +51,7 @@ pub record CanAccept (g : GroupKeys) (ls : Logs) (f : ℕ) (w : WantedPart) (p a
   pub claim : claim_of (member_plan a) f ≡ Some w.part
   pub want : w ≡ published_want g ls w.part
 
--- The member of this number may get a packet for its fetcher's claim.
+-- The fetcher `f` of member `m` can receive a packet for its claim: the member exists, and all members are consistent.
 pub record CanGetAt (g : GroupKeys) (ls : Logs) (f m : ℕ) (ms : List MemberState) : Type 0 where
   pub logs : AreLogs g ls
   pub numbers : MembersAreNumbered ms
@@ -60,7 +60,7 @@ pub record CanGetAt (g : GroupKeys) (ls : Logs) (f m : ℕ) (ms : List MemberSta
   pub there : m < length ms
   pub fetcher : IsFetcher f
 
--- Member `q` may answer it.
+-- Member `q` can answer for the claim of the fetcher `f` of member `m`.
 pub record CanAnswerAt (g : GroupKeys) (ls : Logs) (f m q : ℕ) (ms : List MemberState) : Type 0 where
   pub get : CanGetAt g ls f m ms
   pub other : q < length ms
@@ -68,7 +68,7 @@ pub record CanAnswerAt (g : GroupKeys) (ls : Logs) (f m q : ℕ) (ms : List Memb
 -- ---- one holder and the members that lend
 
 module _ {H : Type 0} (words : HolderPredicates H) where
-  -- It gathers in a settle, in which the network loses nothing.
+  -- The holder `s` can gather parts in a settle, in which the network loses nothing.
   pub record CanFetchAll (g : GroupKeys) (ls : Logs) (n : ℕ) (touched : Touched) (lenders : List MemberState)
       (lost : Option ℕ) (s : H) : Type 0 where
     pub workers : (1 ≤ n) × (n ≤ 16)
@@ -79,7 +79,7 @@ module _ {H : Type 0} (words : HolderPredicates H) where
     pub tried : TriedFew (words.holdings s)
     pub lacks : LacksOnlyTouched words touched lenders s
 
-  -- It fetches, so often at most.
+  -- The holder `s` can fetch parts, with at most `most` attempts at each.
   pub record CanFetch (g : GroupKeys) (ls : Logs) (n most : ℕ) (lenders : List MemberState) (s : H) : Type 0 where
     pub workers : (1 ≤ n) × (n ≤ 16)
     pub tries : (1 ≤ most) × (most ≤ 16)
@@ -90,7 +90,7 @@ module _ {H : Type 0} (words : HolderPredicates H) where
 
 -- ---- one mirror and all members
 
--- The mirror of this number fetches of members, so often at most.
+-- Mirror `i` can fetch parts from the members `lenders`, with at most `most` attempts at each.
 pub record CanFetchFor (g : GroupKeys) (n most i : ℕ) (lenders : List MemberState) (ms : List MirrorState) : Type
     0 where
   pub workers : (1 ≤ n) × (n ≤ 16)
@@ -102,7 +102,7 @@ pub record CanFetchFor (g : GroupKeys) (n most i : ℕ) (lenders : List MemberSt
   pub consistent : IsConsistentMirror g (logs_around lenders) (mirror_at ms i)
   pub tried : TriedFew (mirror_holdings (mirror_at ms i))
 
--- It has learnt nothing yet of a settle, in which members lend what they store. They know this vector together.
+-- Mirror `i` can gather parts from the members `lenders` in a settle. `received` is the join of all members' vectors.
 pub record CanFetchAllFor (g : GroupKeys) (n i : ℕ) (lenders : List MemberState) (touched : Touched)
     (received : List ℕ) (ms : List MirrorState) : Type 0 where
   pub workers : (1 ≤ n) × (n ≤ 16)
@@ -116,7 +116,7 @@ pub record CanFetchAllFor (g : GroupKeys) (n i : ℕ) (lenders : List MemberStat
   pub tried : TriedFew (mirror_holdings (mirror_at ms i))
   pub lacks : MirrorLacksNone touched (someone_holds (in_groups lenders)) (mirror_at ms i)
 
--- The same of all mirrors.
+-- All mirrors can gather parts from the members `lenders` in a settle. `received` is the join of all members' vectors.
 pub record CanFetchAllForMirrors (g : GroupKeys) (n : ℕ) (lenders : List MemberState) (touched : Touched)
     (received : List ℕ) (ms : List MirrorState) : Type 0 where
   pub workers : (1 ≤ n) × (n ≤ 16)
@@ -131,13 +131,13 @@ pub record CanFetchAllForMirrors (g : GroupKeys) (n : ℕ) (lenders : List Membe
 
 -- ---- all members
 
--- They announce what they know.
+-- The members can announce their vectors: each is consistent, and they stand under their numbers.
 pub record CanTell (g : GroupKeys) (ls : Logs) (ms : List MemberState) : Type 0 where
   pub logs : AreLogs g ls
   pub numbers : MembersAreNumbered ms
   pub consistent : AreConsistentMembers g ls ms
 
--- The member of this number gathers.
+-- Member `j` can gather parts from the others in a settle.
 pub record CanFetchAllAt (g : GroupKeys) (ls : Logs) (n j : ℕ) (touched : Touched) (ms : List MemberState) : Type
     0 where
   pub workers : (1 ≤ n) × (n ≤ 16)
@@ -147,7 +147,7 @@ pub record CanFetchAllAt (g : GroupKeys) (ls : Logs) (n j : ℕ) (touched : Touc
   pub tried : AllTriedFew ms
   pub lacks : LacksOnlyTouched member_words touched (others_than j ms) (state_at ms j)
 
--- The members are those of this group, and the one of this number fetches.
+-- The members `ms` are those of the world `w`, and member `j` can fetch, with at most `most` attempts at each part.
 pub record CanFetchAt (g : GroupKeys) (w : World) (n most j : ℕ) (ms : List MemberState) : Type 0 where
   pub workers : (1 ≤ n) × (n ≤ 16)
   pub tries : (1 ≤ most) × (most ≤ 16)
@@ -158,7 +158,8 @@ pub record CanFetchAt (g : GroupKeys) (w : World) (n most j : ℕ) (ms : List Me
   pub consistent : AreConsistentMembers g (group.logs w) ms
   pub tried : AllTriedFew ms
 
--- They have learnt what all know, and gather.
+-- The members `ms` are those of the world `w` after each joined all vectors to its own. They can gather parts in a
+-- settle.
 pub record CanGatherAll (g : GroupKeys) (w : World) (n : ℕ) (touched : Touched) (ms : List MemberState) : Type
     0 where
   pub workers : (1 ≤ n) × (n ≤ 16)
@@ -170,7 +171,7 @@ pub record CanGatherAll (g : GroupKeys) (w : World) (n : ℕ) (touched : Touched
   pub tried : AllTriedFew ms
   pub lacks : NoneLacks touched (in_groups ms)
 
--- They are those of this group, and settle.
+-- The members `ms` are those of the world `w`, and can settle.
 pub record CanSettle (g : GroupKeys) (w : World) (n : ℕ) (touched : Touched) (ms : List MemberState) : Type 0 where
   pub workers : (1 ≤ n) × (n ≤ 16)
   pub logs : AreFewLogs g (group.logs w)

@@ -1,4 +1,4 @@
--- What is counted of fetches.
+-- The counts of fetches.
 use Rattle.std.specs.Prelude.{ℕ, ◌≡◌, List, Option, length, is_some, count_by, sum_by}
 use Rattle.repo_object.specs.Verdict.{CheckedPart}
 use Rattle.group_model.specs.World.{World, Environment, logs}
@@ -9,13 +9,13 @@ use Rattle.repo_member.specs.Outcomes.{octets_in}
 use Rattle.bench_world.specs.Sizes.{size_of}
 use Rattle.bench_world.specs.declared.fetch.FetchReport.{FetchReport}
 
--- How many packets came for jobs, and how many octets.
+-- The counts `kept` are those of the packets in `came`, and of their octets.
 pub record AreCountsOf (came : List (Option CheckedPart)) (kept : FetchCounts) : Type 0 where
   pub parts : kept.parts ≡ count_by is_some came
   pub octets : kept.octets ≡ sum_by octets_in came
 
--- The counts of a fetch by the member of this number are those of the group's fetch: the parts that were asked for,
--- those that came and their octets, and the attempts.
+-- The report `r` has the counts of the model's fetch by member `j`: the parts that were asked for, the parts that were
+-- received and their octets, and the attempts.
 pub record AreFetchCounts (g : GroupKeys) (env : Environment) (w : World) (j tries loss : ℕ) (r : FetchReport) : Type
     0 where
   pub planned : r.planned ≡ length (planned_parts w j)

@@ -97,11 +97,11 @@ event_value (is.Delete m client name) = EventValue.Delete m client name
 event_value is.Summary = EventValue.Summary
 event_value is.Traffic = EventValue.Traffic
 
--- The part of this publisher, sequence number and place.
+-- The part with the publisher `p`, the sequence number `s` and the part number `x`.
 abbrev pub part_at : ℕ → ℕ → ℕ → Part
 part_at p s x = record { publisher = p; seq = s; part = x }
 
--- The event as the group has it: a content is cut, octets are read as what they are, and workers are nothing to it.
+-- The model's event for an event: contents are cut into segments, octets are read, and workers are left out.
 abbrev pub group_event : GroupKeys → EventValue → group.Event
 group_event g (EventValue.Publish m name size content) =
     group.Event.Publish m (record { name = name; contents = pieces size content })
@@ -226,7 +226,7 @@ abbrev pub delivered_report : ℕ → ℕ → Mode → ReportValue
 delivered_report k m Steady = ReportValue.DeliverSteady k m
 delivered_report k m Suppressed = ReportValue.DeliverSuppressed k m
 
--- Where the next sync Interest has this number.
+-- The report of a timer of member `m` that fired, where the next sync Interest has the number `k`.
 abbrev pub fired_report : ℕ → ℕ → Fired → ReportValue
 fired_report m k fired.Early = ReportValue.FireEarly m
 fired_report m k fired.Quiet = ReportValue.FireQuiet m
@@ -237,7 +237,7 @@ abbrev pub claim_report : ℕ → ℕ → Option Part → ReportValue
 claim_report m f None = ReportValue.ClaimNone m f
 claim_report m f (Some t) = ReportValue.ClaimPart m f t.publisher t.seq t.part
 
--- A fetcher that claims nothing is refused.
+-- The report of a fetcher whose claim ends. If the fetcher claims nothing, the event is refused and has no report.
 abbrev pub lost_report : ℕ → ℕ → Option Part → ReportValue
 lost_report m f None = ReportValue.Nothing
 lost_report m f (Some t) = ReportValue.Lose m f t.publisher t.seq t.part
@@ -256,12 +256,14 @@ abbrev pub mode_report : ℕ → Mode → ReportValue
 mode_report m Steady = ReportValue.HearSteady m
 mode_report m Suppressed = ReportValue.HearSuppressed m
 
--- The report of a sync Interest from outside: the mode then, or that it has too many publications of the member.
+-- The report of a sync Interest from outside: the mode of the sync state afterwards, or that it reports too many
+-- publications of member `m`.
 abbrev pub heard_as : ℕ → Result Mode (ℕ × ℕ) → ReportValue
 heard_as m (Ok mode) = mode_report m mode
 heard_as m (Err ahead) = ReportValue.HearRefused m (hear.OwnNumberAhead ahead.0 ahead.1)
 
--- Where octets are refused, why is reported by the verdict on them.
+-- The report of octets that member `m` hears: the refusal in the verdict on them, or else what the member made of the
+-- sync Interest.
 abbrev pub hear_report : (m : ℕ) (verdict : Result (ℕ × List ℕ) SyncRefusal) → HearOutcome (read_as verdict)
     → ReportValue
 hear_report m (Err refusal) heard = ReportValue.HearRefused m (hear.Sync refusal)
@@ -278,13 +280,14 @@ abbrev pub fed_report : ℕ → ℕ → Result Data PartRefusal → ReportValue
 fed_report m f (Ok d) = ReportValue.FeedKept m f
 fed_report m f (Err refusal) = ReportValue.FeedRefused m f refusal
 
--- A fetcher that claims nothing is refused.
+-- The report of octets that are fed to a fetcher. If the fetcher claims nothing, the event is refused and has no
+-- report.
 abbrev pub feed_report : GroupKeys → World → ℕ → ℕ → List ℕ → Option Part → ReportValue
 feed_report g w m f octets None = ReportValue.Nothing
 feed_report g w m f octets (Some t) = fed_report m f
     (ring_verdict (published_want g (logs w) t) g.members.ring octets)
 
--- What a command is answered.
+-- The report of the answer to a command.
 abbrev pub order_report : ℕ → CommandAnswer → ReportValue
 order_report m a = ReportValue.Order m a.code a.process a.inserted a.deleted
 

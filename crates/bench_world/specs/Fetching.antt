@@ -1,4 +1,4 @@
--- What who holds parts fetches of others.
+-- What a holder of parts, a member or a mirror, fetches from members.
 use Rattle.std.specs.Prelude.{ℕ, ◌+◌, Bool, List, Option, None, is_some, unwrap_or, find, map, if◌then◌else◌}
 use Rattle.repo_plan.specs.declared.part.Part.{Part}
 use Rattle.sorted_lists.specs.Range.{numbers_from}
@@ -8,12 +8,12 @@ use Rattle.repo_holdings.specs.Taking.{Fetched}
 use Rattle.repo_member.specs.MemberState.{MemberState}
 use Rattle.bench_world.specs.Lending.{lent, lends}
 
--- The first of so many attempts that comes through, where one of the others stores the part.
+-- The first of `tries` attempts at the part `t` that passes, if one of `others` stores the part.
 abbrev pub attempt_at : (Part → ℕ → Bool) → List MemberState → ℕ → HoldingsState → Part → Option ℕ
 attempt_at passes others tries h t =
     if lends others t then find (λ n. passes t (attempts_of (held_plan h) t + n)) (numbers_from 1 tries) else None
 
--- The result of a part in at most so many tries.
+-- The result of the part `t` with at most `tries` attempts.
 abbrev pub fetched_one : (Part → ℕ → Bool) → List MemberState → ℕ → HoldingsState → Part → Fetched
 fetched_one passes others tries h t = record {
   part = t;
@@ -21,6 +21,6 @@ fetched_one passes others tries h t = record {
   attempts = unwrap_or (attempt_at passes others tries h t) tries;
 }
 
--- The results of all parts, each in at most so many tries.
+-- The results of the parts `ts`, each with at most `tries` attempts.
 abbrev pub fetched_all : (Part → ℕ → Bool) → List MemberState → ℕ → HoldingsState → List Part → List Fetched
 fetched_all passes others tries h ts = map (fetched_one passes others tries h) ts

@@ -1,5 +1,5 @@
--- Whoever holds parts in a group and fetches more of them: the words in which contracts speak of it, and what holds
--- whatever it is.
+-- Holders of parts in a group, members and mirrors, which fetch more of them: the functions by which contracts describe
+-- a holder, and the laws of every holder.
 use Rattle.std.specs.Prelude.{◌≡◌, ℕ, Bool, true, false, ◌||◌, List, map, filter, take, Option, Some, None, IfSome}
 use Rattle.std.specs.List.{All}
 use Rattle.repo_plan.specs.declared.part.Part.{Part}
@@ -18,41 +18,42 @@ use Rattle.repo_member.specs.InGroup.{AreLogs, published_packet, parts_fetched}
 use Rattle.repo_member.specs.ConsistentHolders.{IsConsistentHolder}
 use Rattle.bench_world.specs.Lending.{lends}
 
--- What contracts say of a holder of some kind.
+-- The functions by which contracts describe the holders of a type.
 pub record HolderPredicates (H : Type 0) : Type 1 where
-  pub holdings : H → HoldingsState  -- what it has of publications; its plan is read there
+  pub holdings : H → HoldingsState  -- what the holder has of publications, its plan among it
   pub held : H → List Part  -- the parts that became held, in order
-  pub rest : H → H  -- all of it but those
-  pub takes : List Fetched → H → H  -- what it makes of what was fetched
-  pub is_consistent : GroupKeys → Logs → H → Type 0  -- what it holds is what was published
+  pub rest : H → H  -- the holder without its held parts
+  pub takes : List Fetched → H → H  -- the holder after it took the results of fetches
+  pub is_consistent : GroupKeys → Logs → H → Type 0  -- the holder's packets are the publishers'
 
--- It holds the part.
+-- The holder `s` holds the part `t`.
 abbrev pub has : {H : Type 0} → HolderPredicates H → H → Part → Bool
 has words s t = contains part_cmp (words.held s) t
 
--- The jobs of the least parts that are wanted and unclaimed, after a place, and that pass a test, at most so many.
+-- The jobs of the least wanted and unclaimed parts that are after `after` and pass `test`, at most `most` of them.
 abbrev pub jobs_that : (Part → Bool) → GroupKeys → HoldingsState → Option Part → ℕ → List Job
 jobs_that test g h after most =
     map (job_at g.members.names g.name h)
     (take most (filter test (filter (is_after after) (unclaimed (held_plan h)))))
 
--- Those that others lend.
+-- The jobs of the least wanted and unclaimed parts that are after `after` and that `others` lend, at most `most` of
+-- them.
 abbrev pub lent_jobs : GroupKeys → List MemberState → HoldingsState → Option Part → ℕ → List Job
 lent_jobs g others h after most = jobs_that (lends others) g h after most
 
--- A part that it wants and that no fetcher claims was asked for, and nothing came, or its packet.
+-- The part of the result `x` is wanted and unclaimed. The packet in `x`, if there is one, is the published one.
 pub record FetchForHolder (g : GroupKeys) (logs : Logs) (h : HoldingsState) (x : Fetched) : Type 0 where
   pub unclaimed : is_unclaimed (held_plan h) x.part ≡ true
   pub packet : IfSome x.packet (λ octets. published_packet g logs x.part ≡ Some octets)
 
--- No packet came, and no attempt is counted.
+-- The result `x` has no packet, and counts no attempt.
 pub record FetchedNothing (x : Fetched) : Type 0 where
   pub packet : x.packet ≡ None
   pub attempts : x.attempts ≡ 0
 
--- What holds of each holder of a kind: what it holds is in order, was published, and isn't wanted; where packets of
--- wanted parts come, it holds those parts too; nothing else of it changes where no attempt is counted; and what it
--- hides stays hidden.
+-- The laws of every holder of a type: the parts that it holds are in order, were published, and aren't wanted; when it
+-- takes packets of wanted parts, it holds those parts too; nothing else of it changes if no attempt is counted; and
+-- what it hides stays hidden.
 pub record AreHolders {H : Type 0} (words : HolderPredicates H) : Type 0 where
   pub holder : (g : GroupKeys) (logs : Logs) (s : H) → words.is_consistent g logs s
       → IsConsistentHolder g logs (words.holdings s)

@@ -19,27 +19,27 @@ use Rattle.bench_world.specs.declared.issued.IssuedCommand.{IssuedCommand}
 abbrev pub issued_of : IssuedCommand → Issued
 issued_of c = record { member = c.member; client = c.client; command = c.command }
 
--- The equality of commands that is derived.
+-- The derived equality of commands.
 abbrev pub derived_equal : Command → Command → Bool
 derived_equal a b = (derived.ghosts).eq a b
 
--- Both are one command of one client for one member, as the derived test has it.
+-- The commands have the same member, the same client and, by the derived equality, the same command.
 abbrev pub is_same : IssuedCommand → IssuedCommand → Bool
 is_same a b = (a.member == b.member) && ((a.client == b.client) && derived_equal a.command b.command)
 
--- What is fed to a hasher.
+-- What a command feeds to a hasher.
 abbrev pub command_input : Command → HashWrites
 command_input (Insert name first last) = fed.slice fed.u8 (encoding name) ++ (fed.u64 first ++ fed.u64 last)
 command_input (Check process) = fed.u64 process
 command_input (Delete name) = fed.slice fed.u8 (encoding name)
 
--- What is fed to a hasher of a command with its member and its client.
+-- What a command with its member and its client feeds to a hasher.
 abbrev pub issued_input : IssuedCommand → HashWrites
 issued_input c = fed.u32 c.member ++ (fed.u32 c.client ++ command_input c.command)
 
 -- ---- the test decides, as `Hash` asks
 
--- The derived equality is the group's.
+-- The derived equality of commands is the group's.
 pub derived_is_equal : (a b : Command) → derived_equal a b ≡ is_equal_command a b
 derived_is_equal (Insert a b c) (Insert d e f) = refl
 derived_is_equal (Check a) (Check b) = refl

@@ -13,11 +13,12 @@ use Rattle.bench_world.specs.IssuedCommands.{issued_of, is_same}
 abbrev pub no_command : IssuedCommand
 no_command = record { member = 0; client = 0; command = Check 0 }
 
--- The commands of these numbers.
+-- The commands that have the numbers `made` among `commands`.
 abbrev pub commands_made : List IssuedCommand → List ℕ → List Issued
 commands_made commands made = map (λ k. issued_of (slice_index_or commands k no_command)) made
 
--- There is the capacity that is spare, each number is that of a command, and a command was made just where it is there.
+-- The lists have capacity for `spare` more commands, each number in `made` is that of a command, and a command was made
+-- exactly if it is among `commands`.
 pub record AreIssued (s : Inside) : Type 0 where
   pub room : s.spare + length s.made.items ≤ vec_capacity s.made
   pub room_of_commands : s.spare ≤ spare s.commands

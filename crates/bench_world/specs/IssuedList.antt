@@ -2,7 +2,7 @@
 use Rattle.std.specs.Prelude.{ℕ, List}
 use Rattle.group_model.specs.World.{Issued}
 
--- What was made, and for how many more commands there is capacity.
+-- The commands that were made, and for how many more commands there is capacity.
 pub record IssuedList : Type 0 where
   pub commands : List Issued
   pub spare : ℕ

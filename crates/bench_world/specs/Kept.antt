@@ -1,4 +1,4 @@
--- How a world is kept.
+-- What contracts see of a world, and its invariant.
 use Rattle.bench_world.specs.declared.world.World.TheInside.{Inside}
 use Rattle.bench_world.specs.Unsettled.{NobodyLacks}
 use Rattle.bench_world.specs.Worlds.{GroupState, IsConsistentState, in_groups}

@@ -9,7 +9,7 @@ use Rattle.repo_member.specs.MemberState.{MemberState}
 abbrev pub totals_in : MemberState → CatalogueTotals
 totals_in a = catalogue_totals (member_catalogue a.store)
 
--- So few that types hold them.
+-- The entries fit in 32 bits, and the segments and octets in 64.
 pub record HasFewTotals (t : CatalogueTotals) : Type 0 where
   pub entries : t.entries < 2 ^ 32
   pub segments : t.segments < 2 ^ 64

@@ -1,11 +1,11 @@
--- A member, as one that holds parts.
+-- A member as a holder of parts.
 use Rattle.std.specs.Prelude.{[]}
 use Rattle.sorted_lists.specs.SortedList.{keys}
 use Rattle.repo_member.specs.MemberState.{MemberState, member_holdings, member_takes}
 use Rattle.repo_member.specs.ConsistentMembers.{IsConsistentMember}
 use Rattle.bench_world.specs.Holders.{HolderPredicates}
 
--- What the words of holders mean for members.
+-- The functions by which contracts describe a holder, for members.
 abbrev pub member_words : HolderPredicates MemberState
 member_words = record {
   holdings = member_holdings;

@@ -1,4 +1,4 @@
--- What holds of whoever holds parts holds of members.
+-- Members are holders of parts: the laws of holders hold of them.
 use Rattle.std.proofs.Common.{◌≡◌, ℕ, suc, List, [], ◌∷◌, Option, Some, None, refl, ap, ◌∙◌, arith}
 use Rattle.std.specs.Prelude.{IfSome, slice_index_or}
 use Rattle.std.specs.List.{All}
@@ -18,7 +18,7 @@ use Rattle.repo_member.proofs.PublicLaws.{takes_consistent}
 use Rattle.bench_world.specs.Holders.{AreHolders, FetchForHolder, FetchedNothing}
 use Rattle.bench_world.specs.MemberWords.{member_words}
 
--- What was fetched is what a member takes.
+-- A packet that was fetched for the member `a`, seen as a holder, is one that the member can take.
 arrives : (g : GroupKeys) (logs : Logs) (a : MemberState) (x : Fetched) → FetchForHolder g logs (member_holdings a) x
     → IfSome x.packet (IsConsistentArrival g logs a x.part)
 arrives g logs a x came = go x.packet came.packet where
@@ -27,7 +27,7 @@ arrives g logs a x came = go x.packet came.packet where
   go None h = tt
   go (Some octets) h = record { unclaimed = came.unclaimed; packet = h }
 
--- Where nothing came, nothing is taken.
+-- Results without packets and attempts change nothing of a member.
 takes_nothing : (xs : List Fetched) (a : MemberState) → All FetchedNothing xs → member_takes xs a ≡ a
 takes_nothing [] a none = refl
 takes_nothing (x ∷ xs) a none =
@@ -39,7 +39,7 @@ takes_nothing (x ∷ xs) a none =
     })
     ∙ takes_nothing xs a (λ k d l. none (suc k) d (omega (arith, l)))
 
--- Where no attempt is counted, all but what is stored stays.
+-- If no attempt is counted, only the store of a member changes.
 rest_stays : (xs : List Fetched) (a : MemberState) → All (λ (x : Fetched). x.attempts ≡ 0) xs
     → record (member_takes xs a) { store = [] } ≡ record a { store = [] }
 rest_stays [] a none = refl
@@ -50,7 +50,7 @@ rest_stays (x ∷ xs) a none =
     (λ k d l. none (suc k) d (omega (arith, l)))
     ∙ (λ i. record a { store = []; attempts = with_tries x.part (one i) a.attempts })
 
--- So they are holders.
+-- Members are holders.
 pub members_hold : AreHolders member_words
 members_hold = record {
   holder = member_is_holder;

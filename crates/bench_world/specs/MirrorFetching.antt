@@ -1,4 +1,4 @@
--- What a mirror fetches of members, in its group's words.
+-- What a mirror fetches from members, as the model has it.
 use Rattle.std.specs.Prelude.{ℕ, ◌≡◌, ◌↔◌, ◌+◌, Bool, true, not, ◌||◌, List, Option, None, is_some, unwrap_or, filter}
 use Rattle.std.specs.Prelude.{find, take, length, sum_by, if◌then◌else◌}
 use Rattle.sorted_lists.specs.SortedList.{contains}
@@ -17,35 +17,36 @@ use Rattle.repo_mirror.specs.ConsistentMirrors.{mirror_in_group}
 abbrev pub mirror_wants : World → MirrorState → List Part
 mirror_wants w m = wanted (mirror_plan m.pattern (logs w) (mirror_in_group m))
 
--- A fetch asks for the least 4,096 of them.
+-- The parts that a mirror asks for in a fetch: the least 4,096 that it wants.
 abbrev pub mirror_asks : World → MirrorState → List Part
 mirror_asks w m = take 4096 (mirror_wants w m)
 
--- Which attempts the network passes, where to it the mirror's number is by 16 higher.
+-- A fetch of mirror `i`, with at most `tries` attempts at each part. To the network the mirror has the number 16 + `i`.
 module _ (passes : ℕ → ℕ → ℕ → ℕ → ℕ → ℕ → Bool) (w : World) (i tries loss : ℕ) where
-  -- The first of so many attempts that the network passes, where a member holds the part.
+  -- The first of `tries` attempts at the part `t` that the network passes, if a member holds the part.
   abbrev pub mirror_attempt : MirrorState → Part → Option ℕ
   mirror_attempt m t =
       if someone_holds w.members t
       then find (λ n. passes (16 + i) t.publisher t.seq t.part (tries_of m.attempts t + n) loss) (numbers_from 1 tries)
       else None
 
-  -- The parts that come.
+  -- The parts that the mirror receives.
   abbrev pub mirror_gets : MirrorState → List Part
   mirror_gets m = filter (λ t. is_some (mirror_attempt m t)) (mirror_asks w m)
 
-  -- How many attempts a part takes.
+  -- How many attempts are made at the part `t`.
   abbrev pub mirror_attempts : MirrorState → Part → ℕ
   mirror_attempts m t = unwrap_or (mirror_attempt m t) tries
 
-  -- The parts whose attempts count from then on: all but the records of objects that its pattern doesn't accept,
-  -- which it passes over and never asks for again.
+  -- The parts whose attempts are counted for later fetches: all but the received records of objects that the pattern
+  -- doesn't accept. The mirror passes those over and never asks for them again.
   abbrev pub mirror_counts : MirrorState → List Part
   mirror_counts m =
       filter (λ t. is_for m.pattern (logs w) (pair_of t) || not (is_some (mirror_attempt m t)))
       (mirror_asks w m)
 
-  -- The parts that a mirror wants are just those that it is to want, and just those of them that came are held too.
+  -- The mirror wants just the parts that the model says, and holds its old parts and just those of the wanted ones that
+  -- it received. The attempts of `mirror_counts` are counted. Its pattern and its vector are unchanged.
   pub record HasFetched (old new : MirrorState) : Type 0 where
     pub pattern : new.pattern ≡ old.pattern
     pub known : new.known ≡ old.known
@@ -55,7 +56,7 @@ module _ (passes : ℕ → ℕ → ℕ → ℕ → ℕ → ℕ → Bool) (w : Wo
         ≡ (contains part_cmp (mirror_gets old) t || mirror_holds (mirror_in_group old) t)
     pub tried : new.attempts ≡ with_each_tried (mirror_attempts old) (mirror_counts old) old.attempts
 
-  -- How many parts are asked for, how many come, and how many attempts are made.
+  -- The counts `r`: how many parts are asked for, how many are received, and how many attempts are made.
   pub record AreMirrorCounts (m : MirrorState) (r : ℕ × ℕ × ℕ) : Type 0 where
     pub planned : r.0 ≡ length (mirror_asks w m)
     pub kept : r.1 ≡ length (mirror_gets m)

@@ -1,4 +1,4 @@
--- What a settle makes of mirrors, and what it leaves where memory was wanting.
+-- What a settle makes of mirrors, and what it leaves when memory runs out.
 use Rattle.std.specs.Prelude.{ℕ, ◌≡◌, ◌≤◌, ◌<◌, true, false, List, length, filter, slice_index, sum_by}
 use Rattle.svs_vector.specs.Vectors.{join}
 use Rattle.sorted_lists.specs.SortedList.{contains}
@@ -16,8 +16,9 @@ use Rattle.repo_mirror.specs.ConsistentMirrors.{mirror_in_group, IsConsistentMir
 use Rattle.bench_world.specs.MirrorSteps.{mirror_at}
 use Rattle.bench_world.specs.MirrorWords.{mirror_held}
 
--- A mirror knows what it and all members know. It holds its old parts and just those for which there is a list of parts
--- that ends with them, each wanted once those before it are held, and each held by some member.
+-- A mirror has settled: its vector is the join of the old one and all members' vectors. It holds its old parts, and
+-- besides them just the parts that end a list of parts of which each is held by some member and is wanted once those
+-- before it are held.
 pub record HasSettled (w : World) (old new : MirrorState) : Type 0 where
   pub pattern : new.pattern ≡ old.pattern
   pub attempts : new.attempts ≡ old.attempts
@@ -30,7 +31,7 @@ pub record HasSettled (w : World) (old new : MirrorState) : Type 0 where
 abbrev pub HaveSettled : World → List MirrorState → List MirrorState → Type 0
 HaveSettled w old new = (i : ℕ) → i < length old → HasSettled w (mirror_at old i) (mirror_at new i)
 
--- How many parts a mirror holds, and how many all do.
+-- How many parts a mirror holds, the records that it passed over included.
 abbrev pub held_by : MirrorState → ℕ
 held_by m = length (mirror_held m)
 
@@ -42,8 +43,8 @@ held_by_all mirrors = sum_by held_by mirrors
 abbrev pub ListsItsJoin : World → MirrorState → Type 0
 ListsItsJoin w m = member_catalogue m.store ≡ filter (is_entry_accepted m.pattern) (join_of (logs w))
 
--- A mirror has come a part of the way: each place of its vector lies between the old and the settled one, it holds its
--- old parts and only parts that it would have held, and what it had passed over it has still passed over.
+-- A mirror is partly settled: each number of its vector is between the old and the settled one, it holds its old parts
+-- and only parts that it would have held, and what it had passed over is still passed over.
 pub record IsPartlySettledMirror (w : World) (old new : MirrorState) : Type 0 where
   pub pattern : new.pattern ≡ old.pattern
   pub attempts : new.attempts ≡ old.attempts
@@ -55,14 +56,14 @@ pub record IsPartlySettledMirror (w : World) (old new : MirrorState) : Type 0 wh
       → ComeInTurn old.pattern (logs w) w.members (path_to (logs w) (learns_all w (mirror_in_group old)) t)
       (learns_all w (mirror_in_group old))
 
--- Every mirror has come a part of the way.
+-- Every mirror is partly settled.
 abbrev pub ArePartlySettledMirrors : World → List MirrorState → List MirrorState → Type 0
 ArePartlySettledMirrors w old new =
     (i : ℕ) → i < length old → IsPartlySettledMirror w (mirror_at old i) (mirror_at new i)
 
 -- ---- one mirror after another
 
--- The first so many have settled, and the others not yet.
+-- The mirrors below number `j` have settled, and the others are as in `begun`.
 pub record SettledSoFar (g : GroupKeys) (w : World) (begun : List MirrorState) (j : ℕ) (new : List MirrorState)
     : Type 0 where
   pub len : length new ≡ length begun

@@ -9,7 +9,7 @@ use Rattle.bench_world.specs.Lending.{attempt_passes}
 use Rattle.bench_world.specs.Gathering.{next_parts}
 use Rattle.bench_world.specs.Fetching.{fetched_all}
 
--- A group has so many mirrors at most.
+-- How many mirrors a group has at most.
 abbrev pub mirror_limit : ℕ
 mirror_limit = 4
 
@@ -21,18 +21,18 @@ no_mirror = initial_mirror (record { publisher = None; prefix = [] }) 0
 abbrev pub mirror_at : List MirrorState → ℕ → MirrorState
 mirror_at mirrors i = slice_index_or mirrors i no_mirror
 
--- It hears a vector.
+-- The mirror after it hears the vector `received`.
 abbrev pub mirror_learns : List ℕ → MirrorState → MirrorState
 mirror_learns received m = record m { known = join m.known received }
 
--- The results of the parts that it asks members for in a fetch. For the network its number is greater by 16.
+-- The results of the parts that mirror `i` asks members for in a fetch. To the network it has the number 16 + `i`.
 abbrev pub mirror_fetched : (ℕ → ℕ → ℕ → ℕ → ℕ → ℕ → Bool) → List MemberState → (i tries loss : ℕ) → MirrorState
     → List Fetched
 mirror_fetched passes members i tries loss m =
     fetched_all (attempt_passes passes (16 + i) (Some loss)) members tries (mirror_holdings m)
     (next_parts None (mirror_holdings m))
 
--- It takes that.
+-- The mirror after it takes the results of a fetch.
 abbrev pub mirror_fetches : (ℕ → ℕ → ℕ → ℕ → ℕ → ℕ → Bool) → List MemberState → (i tries loss : ℕ) → MirrorState
     → MirrorState
 mirror_fetches passes members i tries loss m = mirror_takes (mirror_fetched passes members i tries loss m) m

@@ -1,4 +1,4 @@
--- A mirror, as one that holds parts.
+-- A mirror as a holder of parts.
 use Rattle.std.specs.Prelude.{List, [], map}
 use Rattle.repo_plan.specs.declared.part.Part.{Part}
 use Rattle.repo_plan.specs.Parts.{part_of}
@@ -10,15 +10,15 @@ use Rattle.repo_mirror.specs.ConsistentMirrors.{IsConsistentMirror}
 use Rattle.bench_world.specs.declared.holder.Filtering.{Filtering}
 use Rattle.bench_world.specs.Holders.{HolderPredicates}
 
--- The parts that it keeps, and the records that it passed over, in order.
+-- The parts that the mirror stores, and the records that it passed over, in order.
 abbrev pub mirror_held : MirrorState → List Part
 mirror_held m = insert_keys (map (λ pair. part_of pair 0) m.passed) (keys m.store)
 
--- All of it but those.
+-- The mirror without the parts that it stores and the publications that it passed over.
 abbrev pub mirror_rest : MirrorState → MirrorState
 mirror_rest m = record m { store = []; passed = [] }
 
--- What the words of holders mean for mirrors.
+-- The functions by which contracts describe a holder, for mirrors.
 abbrev pub state_words : HolderPredicates MirrorState
 state_words = record {
   holdings = mirror_holdings;
@@ -28,7 +28,7 @@ state_words = record {
   is_consistent = IsConsistentMirror;
 }
 
--- The same of a mirror with its filter.
+-- The functions by which contracts describe a holder, for mirrors with a filter.
 abbrev pub mirror_words : {X : Type 0} {f : _} → HolderPredicates (Filtering X f)
 mirror_words = record {
   holdings = λ s. mirror_holdings s.mirror;

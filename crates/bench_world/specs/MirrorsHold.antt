@@ -1,4 +1,4 @@
--- What holds of whoever holds parts holds of mirrors.
+-- Mirrors are holders of parts: the laws of holders hold of them.
 use Rattle.std.proofs.Common.{◌≡◌, inl, inr, ℕ, suc, Bool, true, false, cond, ◌==◌, ◌&&◌, ◌||◌, List, [], ◌∷◌, map}
 use Rattle.std.proofs.Common.{Option, Some, None, refl, sym, ap, ◌∙◌, subst, arith}
 use Rattle.std.specs.Prelude.{IfSome, slice_index_or, filter, not, option_map, unwrap_or}
@@ -36,7 +36,7 @@ use Rattle.bench_world.specs.MirrorWords.{mirror_held, mirror_rest, mirror_words
 
 -- ---- what a mirror holds
 
--- The records of publications are those parts.
+-- A part is one of the records of `pairs` exactly if its part number is 0 and its publication is one of `pairs`.
 record_there : (pairs : List Pair) (t : Part)
     → contains part_cmp (map (λ pair. part_of pair 0) pairs) t ≡ (t.part == 0 && contains pair_cmp pairs (pair_of t))
 record_there pairs t =
@@ -55,7 +55,7 @@ record_there pairs t =
     (contains_in exact_parts (map (λ pair. part_of pair 0) pairs) (part_of (pair_of t) 0)
     (in_map (λ pair. part_of pair 0) pairs (pair_of t) (in_contains exact_pairs pairs (pair_of t) p.1))))
 
--- The held parts are those that the mirror holds as its group has it.
+-- The part `t` is one of a mirror's held parts exactly if the mirror holds it in its group.
 pub held_is : (m : MirrorState) (t : Part) → contains part_cmp (mirror_held m) t ≡ mirror_holds (mirror_in_group m) t
 held_is m t =
     contains-insert_keys (map (λ pair. part_of pair 0) m.passed) (keys m.store) t
@@ -110,7 +110,7 @@ for_mirror g logs m x are consistent came =
       }
 
 module _ (pattern : Pattern) where
-  -- Where nothing came, nothing is passed over, and nothing else changes.
+  -- A result without a packet is kept, so nothing is passed over where there are only such results.
   kept_one : (x : Fetched) → FetchedNothing x → is_fetch_for pattern x ≡ true
   kept_one x none =
       ap (λ (o : Option (List ℕ)). unwrap_or (option_map (is_packet_for pattern x.part) o) true) none.packet
@@ -130,7 +130,7 @@ module _ (pattern : Pattern) where
       (filter (λ y. not (is_fetch_for pattern y)) xs))) (kept_one x (none 0 x (omega arith)))
       ∙ none_passed xs (λ k d l. none (suc k) d (omega (arith, l)))
 
-  -- Where no attempt is counted, none is.
+  -- If no result counts an attempt, the counts of attempts are unchanged.
   no_tries : (xs : List Fetched) (ns : List (Part × ℕ)) → All (λ (x : Fetched). x.attempts ≡ 0) xs
       → with_all_tries (fetches_for pattern xs) ns ≡ ns
   no_tries [] ns none = refl
@@ -171,7 +171,7 @@ mirror_takes_consistently g logs xs m are come consistent =
     (mirrors_take_consistent g logs m xs are consistent
     (λ k d l. for_mirror g logs m (slice_index_or xs k d) are consistent (come k d l))).stays
 
--- What was passed over stays so where more is.
+-- A publication that was passed over stays passed over when others are added.
 pub stays_passed : (pairs passed : List Pair) (q : Pair) → contains pair_cmp passed q ≡ true
     → contains pair_cmp (with_hidden pairs passed) q ≡ true
 stays_passed [] passed q h = h
@@ -180,7 +180,7 @@ stays_passed (pair ∷ pairs) passed q h =
     (contains-insert_key exact_pairs pair passed q
     ∙ or_right (eq_by_cmp pair_cmp q pair) (contains pair_cmp passed q) h)
 
--- So they are holders.
+-- Mirrors are holders.
 pub mirrors_hold : {X : Type 0} {f : _} → AreHolders (mirror_words {X = X} {f = f})
 mirrors_hold {X} {f} = record {
   holder = λ g logs s consistent. mirror_is_holder g logs s.mirror consistent;

@@ -8,8 +8,8 @@ use Rattle.group_model.specs.World.{Environment}
 use Rattle.group_model.specs.Steps.{after_publish, next_seq_at, next_sync}
 use Rattle.bench_world.specs.Worlds.{GroupState, world_of}
 
--- A member published an object, which nothing refused. Its number and that of the sync Interest are given. It counts
--- as a step, and leaves keys and mirrors alone.
+-- Member `m` published the object, which nothing refused. `given` has the number of the publication and that of the
+-- sync Interest. The event counts as a step; keys and mirrors are unchanged.
 pub record IsObjectPublished (env : Environment) (old : GroupState) (m : ℕ) (object : NamedContents) (new : GroupState)
     (given : ℕ × ℕ)
     : Type 0 where

@@ -1,4 +1,4 @@
--- What a step leaves that wanted memory, and lists of events.
+-- What a step leaves when memory runs out, how an event ends, and lists of events.
 use Rattle.std.specs.Prelude.{ℕ, ◌≡◌, ◌+◌, ◌<◌, List, ◌++◌, map, take, length, slice_index_or, Option, None, Result}
 use Rattle.std.specs.Prelude.{OnOk, IfOk, OnErr, IfErr}
 use Rattle.group_model.specs.Events as group
@@ -16,8 +16,8 @@ use Rattle.bench_world.specs.Settling.{ArePartlySettled}
 use Rattle.bench_world.specs.Steps.{IsFaultOf, IsStepFaultOf}
 use Rattle.bench_world.specs.Worlds.{GroupState, IsConsistentState, in_groups, world_of}
 
--- What a settle leaves that wanted memory: it counts as a step, each member has come a part of the way, and nothing
--- else has changed. The group was true and is, what its members store among it.
+-- What a settle leaves when memory runs out: it counts as a step, each member is partly settled, and nothing else has
+-- changed. The group was sound before and is sound after, what its members store included.
 pub record HaveSettledPartly (old new : GroupState) : Type 0 where
   pub same : new ≡ record old { members = new.members; steps = old.steps + 1 }
   pub members : ArePartlySettled (world_of old) (in_groups new.members)
@@ -29,18 +29,18 @@ pub record HaveSameMembers (w v : World) : Type 0 where
   pub members : w.members ≡ v.members
   pub catalogues : (j : ℕ) → catalogue_at w j ≡ catalogue_at v j
 
--- A settle that then succeeds leaves the members that the one that failed would have left.
+-- A settle that succeeds after one that ran out of memory leaves the members that the first would have left.
 abbrev pub GathersAgain : Type 0
 GathersAgain = (env : Environment) (old new : GroupState) → HaveSettledPartly old new
     → HaveSameMembers (after_gathering env (world_of new)) (after_gathering env (world_of old))
 
--- So does its step.
+-- The step of a settle, made after a settle that ran out of memory, leaves the members that the first would have left.
 abbrev pub SettlesAgain : Type 0
 SettlesAgain = (env : Environment) (old new : GroupState) → HaveSettledPartly old new
     → HaveSameMembers (after_event env (world_of new) group.Event.Settle)
     (after_event env (world_of old) group.Event.Settle)
 
--- Everything is as before, except after such a settle.
+-- What an event that fails leaves: a settle leaves members partly settled, and any other event changes nothing.
 abbrev pub StandsAsBefore : EventValue → GroupState → GroupState → Type 0
 StandsAsBefore (EventValue.Settle workers) old new = HaveSettledPartly old new
 StandsAsBefore _ old new = new ≡ old
@@ -50,8 +50,8 @@ abbrev pub JoinsAfter : EventValue → World → Type 0
 JoinsAfter (EventValue.Settle workers) w = NothingDeleted w → AllJoined w
 JoinsAfter _ w = Unit {0}
 
--- How an event ends, by what may refuse it, the world after it and what is reported: where nothing refuses it, this
--- world and this report; else why it isn't taken.
+-- How the event `e` ends. If it is carried out, nothing refuses it (`why`), the world after it is `then`, and its
+-- report is `what`. If it isn't, the error is the one for `why`, or memory ran out.
 pub record EndsAs (why : Option Refusal) (then : World) (what : ReportValue) (e : EventValue) (old : GroupState)
     (result : Result Happened EventError) (new : GroupState) : Type 0 where
   pub taken : OnOk result (why ≡ None)
@@ -64,7 +64,7 @@ pub record EndsAs (why : Option Refusal) (then : World) (what : ReportValue) (e 
   pub refused : IfErr result (IsFaultOf why)
   pub err : OnErr result (StandsAsBefore e old new)
 
--- A step is what the model makes of the world, reports and refuses.
+-- An event ends as the model says: its refusal, the world after it and its report are the model's.
 abbrev pub IsStep : Environment → EventValue → GroupState → Result Happened EventError → GroupState → Type 0
 IsStep env e old result new =
     EndsAs (refusal env (world_of old) (group_event old.keys e))
@@ -81,7 +81,7 @@ event_values events = map event_value events
 abbrev pub group_events : GroupKeys → List EventValue → List group.Event
 group_events g events = map (group_event g) events
 
--- The events before that of this number were carried out, each a step, and left this group; then came the fault.
+-- The first `k` events were carried out, each as a step. The next one failed with the fault `received` and left `new`.
 pub record IsStopped (env : Environment) (begun : GroupState) (events : List EventValue) (k : ℕ) (received : StepFault)
     (new : GroupState) : Type 0 where
   pub inside : k < length events

@@ -1,5 +1,5 @@
--- What a member gives to one that asks for a part, by what was published and what it holds; and so what isn't the
--- group's to say.
+-- What a member answers when it is asked for a part, by what was published and what it holds; and the environment that
+-- follows.
 use Rattle.std.specs.Prelude.{ℕ, Bool, true, List, [], Option, Some, None, unwrap_or, is_ok, Result, Ok, Err}
 use Rattle.std.specs.Prelude.{if◌then◌else◌}
 use Rattle.std.specs.Str.{bytes_eq}
@@ -23,7 +23,7 @@ octets_response g logs t octets =
     then if bytes_eq octets (unwrap_or (published_packet g logs t) []) then Its else Another
     else Nothing
 
--- What a packet is for a claimed part: its packet, another one that passes, or nothing.
+-- How a packet is read for the claimed part `t`: as that part's packet, as another one that passes, or as nothing.
 abbrev pub packet_response : GroupKeys → Logs → Part → Option (List ℕ) → Response
 packet_response g logs t None = Nothing
 packet_response g logs t (Some octets) = octets_response g logs t octets
@@ -33,12 +33,13 @@ abbrev pub found : Result (Option (List ℕ)) PacketFault → Option (List ℕ)
 found (Ok packet) = packet
 found (Err fault) = None
 
--- What a member that holds these parts gives to one that asks for a part.
+-- What a member that holds the parts `held` answers when it is asked for the part `t`.
 abbrev pub holder_packet_response : GroupKeys → Logs → List Part → Part → Response
 holder_packet_response g logs held t = packet_response g logs t (found
     (served (published_want g logs t).interest (published_packets g logs held)))
 
--- What isn't the group's to say, with what its keys and publications make of it.
+-- The environment with these draws and this network, in which keys and publications decide what members answer and how
+-- large packets are.
 abbrev pub environment : GroupKeys → (ℕ → ℕ → ℕ) → (ℕ → ℕ → ℕ → ℕ → ℕ → ℕ → Bool) → Environment
 environment g draw passes = record {
   draw = draw;
@@ -47,6 +48,6 @@ environment g draw passes = record {
   size = size_of g;
 }
 
--- The same where neither draws nor the network matter.
+-- The environment where every draw is 0 and the network passes every attempt.
 abbrev pub lossless : GroupKeys → Environment
 lossless g = environment g (λ _ _. 0) (λ _ _ _ _ _ _. true)

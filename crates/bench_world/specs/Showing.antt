@@ -14,6 +14,6 @@ sender_at w k = if k == 0 then None else option_map (λ (s : SyncInterest). s.se
 abbrev pub octets_of : GroupKeys → SyncInterest → List ℕ
 octets_of g s = sync_of g s.sender s.vector
 
--- Those of the sync Interest of a number, counted from 1.
+-- The octets of the sync Interest of a number, counted from 1.
 abbrev pub sync_octets_at : GroupKeys → World → ℕ → Option (List ℕ)
 sync_octets_at g w k = if k == 0 then None else option_map (octets_of g) (slice_get w.sent (k - 1))

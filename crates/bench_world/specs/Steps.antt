@@ -1,4 +1,4 @@
--- When an event can be carried out, its result, and lists of events.
+-- When an event can be carried out, the errors of events and steps, and the members that reports name.
 use Rattle.std.specs.Prelude.{ℕ, ◌≡◌, ◌+◌, ◌<◌, ◌≤◌, IsTrue, length, Option, Some, None}
 use Rattle.std.specs.List.{All}
 use Rattle.svs_vector.specs.declared.vector_fault.VectorFault.{VectorFault}
@@ -18,8 +18,8 @@ use Rattle.bench_world.specs.declared.event.StepFault.{StepFault}
 use Rattle.bench_world.specs.declared.event.StepFault.TheVariants as step
 use Rattle.bench_world.specs.EventValues.{EventValue, ReportValue}
 
--- There are so many members; the members and fetchers that an event names are there, and what is said is within its
--- limits.
+-- The event can be carried out in a group of `n` members: the members and fetchers that it names exist, and its values
+-- are within their limits.
 abbrev pub EventInRange : ℕ → EventValue → Type 0
 EventInRange n (EventValue.Publish m name size content) =
     (m < n) × IsTrue (is_object_name name) × (1 ≤ size) × (size ≤ 8000) × (length (pieces size content) ≤ 20000)
@@ -50,7 +50,7 @@ EventInRange n (EventValue.Delete m client name) = (m < n) × IsTrue (is_object_
 EventInRange n EventValue.Summary = Unit {0}
 EventInRange n EventValue.Traffic = Unit {0}
 
--- There are so many clients, and the one that an event names is there.
+-- If the event names a client, it is one of `n` clients.
 abbrev pub NamesClient : ℕ → EventValue → Type 0
 NamesClient n (EventValue.Insert m client name first last) = client < n
 NamesClient n (EventValue.Status m client process) = client < n
@@ -66,7 +66,7 @@ fault_of Refusal.Foreign = fault.Foreign
 fault_of Refusal.NumbersSpent = fault.NumbersSpent
 fault_of Refusal.NoSuchNumber = fault.NoSuchNumber
 
--- Memory was wanting, or the event is refused so.
+-- Memory ran out, or the error is the one for the group's refusal of the event.
 abbrev pub IsFaultOf : Option Refusal → EventError → Type 0
 IsFaultOf refusal fault.NoMemory = Unit {0}
 IsFaultOf None _ = ⊥
@@ -82,7 +82,7 @@ step_fault fault.NoSuchNumber = step.Refused 14
 step_fault fault.Foreign = step.Foreign
 step_fault fault.NoMemory = step.NoMemory
 
--- There was not enough memory, or the event is refused so.
+-- Memory ran out, or the fault is the one for the group's refusal of the event.
 abbrev pub IsStepFaultOf : Option Refusal → StepFault → Type 0
 IsStepFaultOf refusal step.NoMemory = Unit {0}
 IsStepFaultOf None _ = ⊥
@@ -90,26 +90,26 @@ IsStepFaultOf (Some refusal) made = made ≡ step_fault (fault_of refusal)
 
 -- ---- members that are named
 
--- The member of which a vector has too large a number is one of so many. No octets are refused when memory runs out.
+-- A member that the fault of a vector names is below `n`, the number of members. `NoMemory` is excluded.
 abbrev pub FaultNamesMember : ℕ → VectorFault → Type 0
 FaultNamesMember n (vector.BadVector at) = Unit {0}
 FaultNamesMember n (vector.NumberTooLarge member number) = member < n
 FaultNamesMember n vector.NoMemory = ⊥
 
--- Where the refusal of a sync Interest names a member, this is one of so many. Memory didn't run out.
+-- A member that the refusal of a sync Interest names is below `n`, the number of members. `NoMemory` is excluded.
 abbrev pub SyncNamesMember : ℕ → SyncRefusal → Type 0
 SyncNamesMember n (sync.Vector fault) = FaultNamesMember n fault
 SyncNamesMember n sync.NoMemory = ⊥
 SyncNamesMember n _ = Unit {0}
 
--- Where the refusal of octets that are heard names a member, this is one of so many. Memory didn't run out.
+-- A member that the refusal of heard octets names is below `n`, the number of members. `NoMemory` is excluded.
 abbrev pub HearNamesMember : ℕ → HearRefusal → Type 0
 HearNamesMember n (hear.Sync refusal) = SyncNamesMember n refusal
 HearNamesMember n (hear.OwnNumberAhead own received) = Unit {0}
 HearNamesMember n hear.NoMemory = ⊥
 
--- Each number that stands for a member is that of one of so many. Where all are named, they stand in order, each
--- with a number, or with its sums.
+-- Each number that stands for a member in a report is below `n`, the number of members. A report that lists all members
+-- has them in order, with a number or sums for each.
 abbrev pub NamesInRange : ℕ → ReportValue → Type 0
 NamesInRange n ReportValue.Nothing = Unit {0}
 NamesInRange n (ReportValue.Publish m seq segments sync) = m < n

@@ -6,13 +6,13 @@ use Rattle.repo_member.specs.declared.member.syncing.Fire.TheVariants as fire
 use Rattle.bench_world.specs.EventValues.{ReportValue}
 use Rattle.bench_world.specs.EventValues.ReportValue.{FireEarly, FireQuiet, FireSent}
 
--- What is sent then, where what the member knows is this vector.
+-- The packets that were sent, after the timer of member `m` fired, whose vector is `vector`.
 abbrev pub after_firing : ℕ → List ℕ → Fire → List SentPacket → List SentPacket
 after_firing m vector fire.Early sent = sent
 after_firing m vector fire.Quiet sent = sent
 after_firing m vector (fire.Sent sync) sent = sent ++ sent_packet m vector sync.items ∷ []
 
--- The report of it, where the next sync Interest has this number.
+-- The report of the timer of member `m`, where the next sync Interest has the number `k`.
 abbrev pub fire_report : ℕ → ℕ → Fire → ReportValue
 fire_report m k fire.Early = FireEarly m
 fire_report m k fire.Quiet = FireQuiet m

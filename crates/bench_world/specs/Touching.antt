@@ -1,5 +1,5 @@
--- The publications of which somebody got something since all settled last, and that nobody lacks a part of another
--- one.
+-- The publications of which somebody gained something since all settled last, and that nobody lacks a part of any other
+-- publication.
 use Rattle.std.specs.Prelude.{ℕ, ◌≡◌, ◌⊎◌, ◌<◌, Bool, true, false, ◌&&◌, ◌||◌, List, length, slice_index_or, Option}
 use Rattle.std.specs.Prelude.{Some, None}
 use Rattle.sorted_lists.specs.SortedList.{keys, contains}
@@ -17,16 +17,16 @@ use Rattle.bench_world.specs.declared.touched.Touched.{Touched}
 use Rattle.bench_world.specs.Lending.{lends}
 use Rattle.bench_world.specs.Holders.{HolderPredicates, has}
 
--- Whether the publication is one of these.
+-- Whether the publication `pair` is touched.
 abbrev pub touches : Touched → Pair → Bool
 touches n pair = n.all || contains pair_cmp (keys n.publications.entries) pair
 
--- The publication is one of them now, and so is each that was.
+-- The publication `pair` is touched in `new`, and so is each that is touched in `old`.
 pub record Notes (old : Touched) (pair : Pair) (new : Touched) : Type 0 where
   pub there : touches new pair ≡ true
   pub kept : (q : Pair) → touches old q ≡ true → touches new q ≡ true
 
--- The same of a publication, if there is one.
+-- Each publication that is touched in `old` is touched in `new`, and so is the given one, if there is one.
 abbrev pub NotesAny : Touched → Option Pair → Touched → Type 0
 NotesAny old None new = (q : Pair) → touches old q ≡ true → touches new q ≡ true
 NotesAny old (Some pair) new = Notes old pair new
@@ -44,32 +44,34 @@ blocked_pair m (blocked.Published published) = Some (m, published.seq)
 abbrev pub held_in : MemberState → Part → Bool
 held_in a t = holds (member_plan a) t
 
--- One of these members does.
+-- One of these members holds the part `t`.
 abbrev pub one_holds : List MemberState → Part → Bool
 one_holds members t = some_holds held_in members t
 
--- One of them does, and its publication was touched.
+-- One of these members holds the part `t`, and the publication of the part was touched.
 abbrev pub lend_touched : List MemberState → Touched → Part → Bool
 lend_touched members n t = one_holds members t && touches n (pair_of t)
 
 -- ---- what nobody lacks
 
 module _ {H : Type 0} (words : HolderPredicates H) where
-  -- Of publications that it knows and that weren't touched, a holder has every part that the others store, but where it
-  -- hides the publication.
+  -- Of each publication that it knows and that wasn't touched, the holder `s` has every part that `others` store,
+  -- unless it hides the publication.
   abbrev pub LacksOnlyTouched : Touched → List MemberState → H → Type 0
   LacksOnlyTouched n others s =
       (t : Part) → lends others t ≡ true → touches n (pair_of t) ≡ false
       → knows (held_plan (words.holdings s)) (pair_of t) ≡ true
       → (has words s t ≡ true) ⊎ (hides (held_plan (words.holdings s)) (pair_of t) ≡ true)
 
--- The same of a member, whatever it knows, and of the parts that someone holds.
+-- Of each publication that wasn't touched, the member `m` holds every part that passes `held`, unless it deleted the
+-- publication.
 abbrev pub MemberLacksNone : Touched → (Part → Bool) → Member → Type 0
 MemberLacksNone n held m =
     (t : Part) → held t ≡ true → touches n (pair_of t) ≡ false
     → (member_holds m t ≡ true) ⊎ (has_deleted m (pair_of t) ≡ true)
 
--- The same of all members.
+-- Of each publication that wasn't touched, every member holds each part that some member holds, unless it deleted the
+-- publication.
 abbrev pub NoneLacks : Touched → List Member → Type 0
 NoneLacks n members =
     (j : ℕ) → j < length members → MemberLacksNone n (someone_holds members) (slice_index_or members j no_member)

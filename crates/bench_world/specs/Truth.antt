@@ -1,4 +1,4 @@
--- What was published in a group, and who tried few times.
+-- Limits of what was published in a group, and of the counts of attempts.
 use Rattle.std.specs.Prelude.{ℕ, ◌+◌, ◌<◌, ◌^◌, Bool, List, length}
 use Rattle.repo_plan.specs.declared.part.Part.{Part}
 use Rattle.sorted_lists.specs.SortedList.{keys, contains}
@@ -15,15 +15,15 @@ use Rattle.bench_world.specs.Worlds.{state_at}
 abbrev pub stores : MemberState → Part → Bool
 stores a t = contains part_cmp (keys a.store) t
 
--- No part was tried so often that a count's type ends soon.
+-- The attempts at each part and 16 more are below 2,097,152, the limit of their count.
 abbrev pub TriedFew : HoldingsState → Type 0
 TriedFew h = (t : Part) → attempts_of (held_plan h) t + 16 < 2097152
 
--- No member tried a part so often that a count's type ends soon.
+-- For every member, the attempts at each part and 16 more are below 2,097,152, the limit of their count.
 abbrev pub AllTriedFew : List MemberState → Type 0
 AllTriedFew members = (j : ℕ) → j < length members → TriedFew (member_holdings (state_at members j))
 
--- What the members have published, which a 32-bit number counts.
+-- The logs are those of a group with the keys `g`, and a 32-bit number counts their parts.
 pub record AreFewLogs (g : GroupKeys) (logs : Logs) : Type 0 where
   pub are : AreLogs g logs
   pub few : length (all_parts logs) < 2 ^ 32

@@ -4,7 +4,7 @@ use Rattle.repo_member.specs.declared.refusals.WithdrawRefusal.TheVariants.{NoSu
 use Rattle.bench_world.specs.declared.event.EventError.{EventError}
 use Rattle.bench_world.specs.declared.event.EventError.TheVariants as fault
 
--- The report of it, by why its member refuses it.
+-- The error of a withdrawal, by the reason for which its member refuses it.
 abbrev pub withdraw_fault : WithdrawRefusal → EventError
 withdraw_fault (NoSuchNumber seq) = fault.NoSuchNumber
 withdraw_fault (NumbersSpent log) = fault.NumbersSpent

@@ -1,4 +1,4 @@
--- A group with the packets of its members, and the group's world that it is.
+-- A group with the packets of its members, and the model's world for it.
 use Rattle.std.specs.Prelude.{ℕ, ◌≡◌, ◌*◌, ◌≤◌, ◌<◌, true, List, [], map, length, slice_index_or, None}
 use Rattle.std.specs.List.{All, remove}
 use Rattle.sorted_lists.specs.Range.{numbers_from}
@@ -20,8 +20,8 @@ use Rattle.repo_member.specs.ConsistentMembers.{IsConsistentMember}
 use Rattle.repo_mirror.specs.MirrorState.{MirrorState}
 use Rattle.repo_mirror.specs.ConsistentMirrors.{IsConsistentMirror}
 
--- A group: its names and keys, its members with their packets, what was sent, the time, the commands that
--- clients made for members, the tally, how many steps were made, and its mirrors.
+-- A group: its names and keys, its members with their packets, the packets that were sent, the time, the commands that
+-- clients made for members, the tally, the number of steps made, and its mirrors.
 pub record GroupState : Type 0 where
   pub keys : GroupKeys
   pub members : List MemberState
@@ -46,28 +46,28 @@ nobody = record {
   insertions = no_insertions;
 }
 
--- The member of this number, from 0 on.
+-- The state of member `j`, counted from 0.
 abbrev pub state_at : List MemberState → ℕ → MemberState
 state_at members j = slice_index_or members j nobody
 
--- Each is as each in a sound group, and its stored packets are those of their parts.
+-- Each member is consistent with the group that has the keys `g` and the logs `logs`.
 abbrev pub AreConsistentMembers : GroupKeys → Logs → List MemberState → Type 0
 AreConsistentMembers g logs members = (j : ℕ) → j < length members → IsConsistentMember g logs (state_at members j)
 
--- Members stand under their numbers.
+-- Member `j` of the list has the number `j`.
 abbrev pub MembersAreNumbered : List MemberState → Type 0
 MembersAreNumbered members = (j : ℕ) → j < length members → (state_at members j).number ≡ j
 
--- What counts of a member stays: its sync state's draws, and the attempts of its parts.
+-- The sync state of a member (`machine`), its draws included, and its attempts at parts are unchanged.
 pub record CountsStay (old new : MemberState) : Type 0 where
   pub machine : new.machine ≡ old.machine
   pub attempts : new.attempts ≡ old.attempts
 
--- The draws of every member's sync state, and the attempts of its parts, stay.
+-- The sync state of every member, and its attempts at parts, are unchanged.
 abbrev pub AllCountsStay : List MemberState → List MemberState → Type 0
 AllCountsStay old new = (j : ℕ) → CountsStay (state_at old j) (state_at new j)
 
--- All members but one.
+-- All members but member `j`.
 abbrev pub others_than : ℕ → List MemberState → List MemberState
 others_than j members = remove members j
 
@@ -83,7 +83,7 @@ logs_around members = logs_of (in_groups members)
 abbrev pub sync_in : SentPacket → SyncInterest
 sync_in p = record { sender = p.sender; vector = p.vector }
 
--- The world that it is.
+-- The model's world for the group `s`.
 abbrev pub world_of : GroupState → World
 world_of s = record {
   members = in_groups s.members;
@@ -95,23 +95,23 @@ world_of s = record {
 
 -- ---- what holds of every group
 
--- A packet that was sent is the sync Interest of its vector, which reports no publication that there isn't.
+-- The packet `p` is the sync Interest of a member with the vector `p.vector`, which reports only existing publications.
 pub record IsConsistentSync (g : GroupKeys) (logs : Logs) (p : SentPacket) : Type 0 where
   pub sender : p.sender < length g.members.names
   pub vector : IsConsistentVector logs p.vector
   pub octets : p.octets ≡ sync_of g p.sender p.vector
 
--- What a member announces now.
+-- The sync Interest that the member `a` would send now, as a sent packet with its sender and its vector.
 abbrev pub tells : GroupKeys → MemberState → SentPacket
 tells g a = sent_packet a.number a.known (sync_of g a.number a.known)
 
--- In so many steps a mirror tried no part more often.
+-- The mirror `m` has tried no part more often than 16 times `steps`.
 abbrev pub MirrorTriedFew : ℕ → MirrorState → Type 0
 MirrorTriedFew steps m = (t : Part) → tries_of m.attempts t ≤ steps * 16
 
 -- A sound world: what was published is within the limits, each member stores the packets of the parts that it holds,
--- what was sent is what members reported, counts are within those of so many steps, and mirrors hold what was
--- published.
+-- each sent packet is the sync Interest of a member, counts are within the limits for the number of steps, and at most
+-- four mirrors hold what was published.
 pub record IsConsistentState (s : GroupState) : Type 0 where
   pub are : AreLogs s.keys (logs_around s.members)
   pub numbers : MembersAreNumbered s.members
@@ -129,19 +129,19 @@ pub record IsConsistentState (s : GroupState) : Type 0 where
 abbrev pub no_packet : SentPacket
 no_packet = sent_packet 0 [] []
 
--- What isn't the group's to say, where draws alone matter.
+-- An environment in which only the draws matter: every attempt passes, no member answers, and packets have no octets.
 abbrev pub drawing : (ℕ → ℕ → ℕ) → Environment
 drawing draw = record { draw = draw; passes = λ _ _ _ _. true; serves = λ _ _ _. Nothing; size = λ _ _. 0 }
 
--- Members that have nothing yet.
+-- Member `j`, which has nothing yet, in a group of `n` members: the time is 0, and it has its first draw.
 abbrev pub begun_one : ℕ → (ℕ → ℕ → ℕ) → ℕ → MemberState
 begun_one n draw j = initial_member n j 0 (draw j 0)
 
--- So many members that have nothing yet.
+-- The members of a group of `n`, which have nothing yet.
 abbrev pub begun_all : ℕ → (ℕ → ℕ → ℕ) → List MemberState
 begun_all n draw = map (begun_one n draw) (numbers_from 0 n)
 
--- A group of these members alone, as a fetch or a settle sees it.
+-- A world of these members alone, for fetches and settles: nothing was sent, issued or counted, and the time is 0.
 abbrev pub only_members : List MemberState → World
 only_members members = record {
   members = in_groups members;

@@ -1,4 +1,4 @@
-// Packets that come for what fetchers claim.
+// Packets that are received for what fetchers claim.
 ghost use Rattle.std.specs.Prelude.{◌≡◌, ◌⊎◌, ◌↔◌, Ok, Err, Some, None, IfOk, IfErr, OnOk, OnErr};
 ghost use Rattle.std.specs.Prelude.{unwrap_or, option_map, slice_set, []};
 ghost use Rattle.std.specs.Str.{bytes_eq};
@@ -66,8 +66,8 @@ fn want_for(alloc: Global, g: &Group, member: &Member, f: u8) -> Result<Want, Ev
     }
 }
 
-// Octets are accepted for what a member's fetcher claims, where they pass for it and are its publisher's packet. They
-// are foreign where they pass and aren't.
+// The asker accepts octets for the part that its fetcher `f` claims, if they pass for it and are its publisher's
+// packet. Octets that pass and aren't that packet are foreign.
 fn accept(
     g: &Group,
     publisher: &Member,
@@ -94,7 +94,7 @@ fn accept(
     if !is_its_packet(g, publisher, want.part(), octets)? {
         return Err(EventError::Foreign);
     }
-    // The fetcher claims the part, so only memory can be wanting.
+    // The fetcher claims the part, so only memory can run out.
     match asker.accept_checked(g, f, &checked) {
         Ok(_) => Ok(Fed::Kept),
         Err(_) => Err(EventError::NoMemory),
@@ -111,7 +111,7 @@ fn served_to<'a>(member: &'a Member, want: &Want) -> Option<&'a [u8]>
     }
 }
 
-// What is served is accepted, if anything is: how many octets are kept, if they are.
+// The asker accepts the packet that was served, if one was: how many octets are kept, if they are.
 fn accept_served(
     g: &Group,
     publisher: &Member,
@@ -178,7 +178,7 @@ fn answer_from(
     accept_served(g, publisher, asker, f, want, Some(copy.as_slice()))
 }
 
-// Another member answers a member's fetcher for what that claims: how many octets are kept, if the packet is.
+// Member `q` answers for the claim of the fetcher `f` of member `m`: how many octets are kept, if the packet is.
 pub(crate) fn answer(
     alloc: Global,
     g: &Group,
@@ -213,7 +213,7 @@ pub(crate) fn answer(
     kept
 }
 
-// Octets from outside are accepted for what a member's fetcher claims, if they are its publisher's packet.
+// The fetcher `f` of member `m` accepts octets from outside, if they are the packet of the part that it claims.
 pub(crate) fn feed(
     alloc: Global,
     g: &Group,

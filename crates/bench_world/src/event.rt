@@ -31,7 +31,7 @@ pub enum Event {
     Sync {
         k: u32,
     },
-    /// The time moves on by so many milliseconds.
+    /// The time moves on by `ms` milliseconds.
     Advance {
         ms: u64,
     },
@@ -67,15 +67,15 @@ pub enum Event {
         f: u32,
         q: u32,
     },
-    /// A member asks the others for the parts that it wants, by so many workers, so often at most, over a network with
-    /// that loss.
+    /// A member asks the others for the parts that it wants, by `workers` workers, with at most `tries` attempts at
+    /// each part, over a network with the loss `loss`.
     Fetch {
         m: u32,
         workers: u32,
         tries: u32,
         loss: u32,
     },
-    /// Each member announces what it knows, and fetches what it lacks, by so many workers.
+    /// Each member announces what it knows, and fetches what it lacks, by `workers` workers.
     Settle {
         workers: u32,
     },
@@ -96,7 +96,7 @@ pub enum Event {
         m: u32,
         octets: Vec<u8>,
     },
-    /// Octets come as a packet of what a fetcher claims.
+    /// Octets are received as a packet of the part that a fetcher claims.
     Feed {
         m: u32,
         f: u32,
@@ -136,7 +136,7 @@ pub enum Event {
     },
     /// The totals of all catalogues.
     Summary,
-    /// What was counted.
+    /// The counts of sync Interests, deliveries, attempts, parts and octets.
     Traffic,
 }
 
@@ -177,7 +177,7 @@ pub enum Happened {
     FireQuiet {
         m: u32,
     },
-    /// The number is that of the sync Interest that the member sent.
+    /// The number `k` is that of the sync Interest that the member sent.
     FireSent {
         m: u32,
         k: u64,

@@ -1,4 +1,4 @@
-// What who holds parts fetches of others.
+// What a holder of parts, a member or a mirror, fetches from members.
 ghost use Rattle.std.specs.Prelude.{◌≡◌, ◌≤◌, None, length, map, sum, IfOk, OnOk, OnErr};
 ghost use Rattle.std.specs.List.{sum_by};
 ghost use Rattle.group_model.specs.Publications.{Logs};
@@ -27,7 +27,7 @@ pub(crate) struct FetchReport {
     pub(crate) attempts: u64,
 }
 
-/// One phase, of the least parts that are wanted and that no fetcher claims.
+/// One phase of a fetch: for the least parts that the holder wants and that no fetcher claims.
 pub(crate) fn fetch<N: Net + Sync, R: Threads + Sync, H: Holder>(
     rt: &R,
     alloc: Global,
@@ -72,8 +72,8 @@ pub(crate) fn fetch<N: Net + Sync, R: Threads + Sync, H: Holder>(
     })
 }
 
-/// The same of all members, by who publishes nothing: how many parts were asked for, how many came, and how many
-/// attempts were made.
+/// One phase of a fetch from all members, by a mirror: how many parts were asked for, how many were received, and how
+/// many attempts were made.
 pub(crate) fn fetch_of_all<N: Net + Sync, R: Threads + Sync, H: Holder>(
     rt: &R,
     alloc: Global,

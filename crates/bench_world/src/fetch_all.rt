@@ -1,4 +1,4 @@
-// What who holds parts gathers of others in a settle.
+// The parts that a holder, a member or a mirror, gathers from members in a settle.
 ghost use Rattle.std.specs.Prelude.{◌≡◌, None, IfOk, OnOk, OnErr, length};
 ghost use Rattle.std.specs.List.{sum_by};
 ghost use Rattle.group_model.specs.Publications.{Logs};
@@ -25,14 +25,14 @@ use std::thread::Threads;
 /// How many parts a phase asks for at most.
 pub(crate) const PHASE_LIMIT: usize = 4096;
 
-// Nothing came.
+// The counts where nothing was received.
 const NOTHING: FetchCounts = FetchCounts {
     parts: 0,
     octets: 0,
 };
 
-// The jobs of a phase. What the others lend of publications that weren't touched the holder has, so that they aren't
-// searched.
+// The jobs of a phase. Of publications that weren't touched the holder has all that the others lend, so only touched
+// ones are searched.
 fn jobs_of_touched<H: Holder>(
     alloc: Global,
     g: &Group,
@@ -53,7 +53,8 @@ fn jobs_of_touched<H: Holder>(
     holder.held_jobs(alloc, g, &lenders, after, PHASE_LIMIT)
 }
 
-// One phase, of parts after a place that the others lend: the last part that was asked for, if one was, and the gain.
+// One phase, for parts after `after` that the others lend: the last part that was asked for, if one was, and the counts
+// of what was received.
 fn fetch_phase<N: Net + Sync, R: Threads + Sync, H: Holder>(
     rt: &R,
     alloc: Global,
@@ -88,7 +89,7 @@ fn fetch_phase<N: Net + Sync, R: Threads + Sync, H: Holder>(
     Ok((Some(place), kept))
 }
 
-// Phases from the first wanted part that the others lend to the last: the gain.
+// One round: phases from the first wanted part that the others lend to the last. The result counts what was received.
 fn fetch_round<N: Net + Sync, R: Threads + Sync, H: Holder>(
     rt: &R,
     alloc: Global,
@@ -118,7 +119,7 @@ fn fetch_round<N: Net + Sync, R: Threads + Sync, H: Holder>(
     }
 }
 
-/// Rounds until one brings nothing: the gain.
+/// Rounds until one gains nothing. The result counts what was received.
 pub(crate) fn fetch_all<N: Net + Sync, R: Threads + Sync, H: Holder>(
     rt: &R,
     alloc: Global,
@@ -146,7 +147,7 @@ pub(crate) fn fetch_all<N: Net + Sync, R: Threads + Sync, H: Holder>(
     }
 }
 
-/// The same of all members, by who publishes nothing: how many parts came.
+/// Rounds by a mirror, which asks all members, until one gains nothing: how many parts were received.
 pub(crate) fn fetch_from_all<N: Net + Sync, R: Threads + Sync, H: Holder>(
     rt: &R,
     alloc: Global,

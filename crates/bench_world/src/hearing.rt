@@ -1,4 +1,4 @@
-// Sync Interests that come from outside.
+// Sync Interests from outside.
 ghost use Rattle.std.specs.Prelude.{◌≡◌, ◌⊎◌, ◌<◌, ◌≤◌, ◌^◌, true, false, Ok, Err, IfOk, IfErr, OnOk, OnErr};
 ghost use Rattle.std.specs.Prelude.{length, slice_index};
 ghost use Rattle.bench_net.specs.SentList.{was_sent};
@@ -15,7 +15,7 @@ use std::alloc::Global;
 use svs_sync::{Mode, SyncRefusal, check_sync};
 use svs_vector::Vector;
 
-// Who signed the sync Interest that octets are, and its vector, where the member takes it.
+// The signer and the vector of the sync Interest in `octets`, if the member takes it.
 pub(crate) fn signed_vector(
     alloc: Global,
     g: &Group,
@@ -51,7 +51,8 @@ pub(crate) fn signed_vector(
     Ok((signer, vector))
 }
 
-// The member hears a vector, if the signer sent it: its mode afterwards. Else it is foreign.
+// The member hears the vector, if the signer sent it: the mode of its sync state afterwards. Else the vector is
+// foreign.
 pub(crate) fn hear_sent(
     alloc: Global,
     sent: &Sent,

@@ -1,4 +1,4 @@
-// Who holds parts, and fetches more of them.
+// Holders of parts, which fetch more of them.
 ghost use Rattle.std.specs.Prelude.{◌≡◌, ◌≤◌, length, map, IfOk, OnOk, OnErr};
 ghost use Rattle.std.specs.List.{All, sum_by};
 ghost use Rattle.std.specs.Thread.{IsSync};
@@ -21,12 +21,12 @@ use repo_watch::Filter;
 use std::alloc::{AllocError, Global};
 use std::thread::Threads;
 
-/// Who holds parts of a group's publications and plans jobs for more of them: a member, and whoever publishes nothing.
+/// A holder of parts of a group's publications, which plans jobs for more of them: a member or a mirror.
 pub(crate) trait Holder {
     ghost words: { HolderPredicates Self };
 
-    /// The least parts that it wants, that no fetcher claims and that are greater than `after`, at most `most` of them,
-    /// as jobs whose attempts go on from those that were made.
+    /// The least parts that the holder wants, that no fetcher claims and that are greater than `after`, at most `most`
+    /// of them, as jobs whose attempts go on from those that were made.
     fn jobs(
         &self,
         alloc: Global,
@@ -37,7 +37,8 @@ pub(crate) trait Holder {
         requires { length g.now.members.names ≡ length (words.holdings self.now).known }
         ensures { IfOk result (λ jobs. jobs.items ≡ jobs_of g.now (words.holdings self.now) after most) };
 
-    /// Such jobs of those parts that these lend.
+    /// The jobs of the least parts that the holder wants, that no fetcher claims, that are greater than `after` and
+    /// that `lenders` lend, at most `most` of them.
     fn held_jobs(
         &self,
         alloc: Global,
@@ -51,8 +52,9 @@ pub(crate) trait Holder {
             ≡ jobs_that (some_holds (λ l. lend_touched l.members.now l.touched.now) lenders.now) g.now
             (words.holdings self.now) after most) };
 
-    /// Takes the results of jobs that it planned: for each job its packet, if any, and how often it was tried. Where
-    /// there are several workers and many octets came, they make the digests over the contents of what becomes whole.
+    /// Takes the results of jobs that the holder planned: for each job its packet, if any, and how often it was tried.
+    /// Where there are several workers and many octets were received, the workers make the digests over the contents of
+    /// objects that become whole.
     //
     // That threads may share the handle is a condition, since the bounds of a trait's method don't say it to its proof.
     fn take<R: Threads + Sync>(
@@ -125,7 +127,8 @@ impl Holder for Member {
     ghost are_holders = { members_hold };
 }
 
-// The digests over the contents of what becomes whole in the member by the results of jobs, made by so many workers.
+// The digests over the contents of objects that become whole in the member by the results of jobs, made by `workers`
+// workers.
 fn digests_with<R: Threads + Sync>(
     rt: &R,
     alloc: Global,
@@ -202,7 +205,7 @@ impl<'f> Holder for Filtering<'f> {
     ghost are_holders = { mirrors_hold };
 }
 
-// How many octets came.
+// How many octets the packets have that were received.
 fn fetched_octets(parts: &[Option<Checked<'_>>]) -> u64
     requires { length parts.now ≤ job_limit }
     ensures { result ≡ sum_by octets_in parts.now }

@@ -45,13 +45,13 @@ impl Hash for IssuedCommand {
 pub(crate) struct IssuedCommands {
     // Each command that was made, once.
     commands: IndexSet<IssuedCommand>,
-    // Which was made when, by its number among them. Only clauses read it: the group lists a command as often as it was
-    // made, and a ghost field is no list.
+    // The commands in the order of making, each by its number in `commands`. Only clauses read this list: the group
+    // lists a command as often as it was made, and a ghost field is no list.
     made: Vec<usize>,
     spare: usize,
 }
 
-// They are seen as a list, with the number of commands for which there is capacity.
+// Contracts see the commands as a list, with the number of commands for which there is capacity.
 impl Model for IssuedCommands {
     ghost use Rattle.bench_world.specs.IssuedList.{IssuedList};
 

@@ -6,21 +6,21 @@ ghost use Rattle.bench_world.specs.Answerable.{HoldersCanAnswer, PublishersCanAn
 ghost use Rattle.bench_world.specs.Runs.{GathersAgain, SettlesAgain};
 ghost use Rattle.bench_world.specs.Workers.{ComeToTheSame};
 
-/// Where the packets of index packets and segments are known by their names and digests, an answer from a member that
-/// holds the claimed part is kept, and so is one from its publisher, unless that has deleted its publication.
+/// Where index packets and segments are identified by their names and digests, an answer from a member that holds the
+/// claimed part is kept. So is an answer from the publisher of the part, unless the publisher has deleted the
+/// publication.
 pub fn claimed_parts_can_be_answered()
     ensures holders { (s : GroupState) → IsConsistentState s → HoldersCanAnswer s }
     ensures publishers { (s : GroupState) → IsConsistentState s → PublishersCanAnswer s }
 {}
 
-/// A settle that wanted memory can be made again, and then leaves what it would have left at first.
+/// A settle that ran out of memory can be made again, and then leaves the members that it would have left at first.
 pub fn a_settle_can_be_made_again()
     ensures settle { GathersAgain }
     ensures step { SettlesAgain }
 {}
 
-/// How many workers fetch or settle is nothing to what refuses the event, to what it makes of the world and to what is
-/// reported of it.
+/// The number of workers of a fetch or a settle changes neither its refusal, nor the world after it, nor its report.
 pub fn workers_make_no_difference()
     ensures fetches { (g : GroupKeys) (m tries loss few many : ℕ)
         → ComeToTheSame g (EventValue.Fetch m few tries loss) (EventValue.Fetch m many tries loss) }

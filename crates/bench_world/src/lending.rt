@@ -1,4 +1,4 @@
-// Members that lend their packets to one that asks for parts.
+// Members that lend their packets to a holder that asks for parts.
 ghost use Rattle.std.specs.Prelude.{◌≡◌, option_map};
 ghost use Rattle.bench_world.specs.Lending.{attempt_passes, if_comes, lent, lent_first};
 
@@ -8,14 +8,14 @@ use repo_member::Member;
 use repo_object::{Packet, Want};
 use repo_plan::Part;
 
-/// The members that one asks for parts, and the network that its attempts go through.
+/// The members that a holder asks for parts, and the network that its attempts go through.
 #[derive(Drop)]
 pub(crate) struct MemberLink<'w, N> {
-    /// All but the asking one, in order.
+    /// The members that are asked, in order: all but the asker.
     pub(crate) others: &'w [Member],
     pub(crate) net: &'w N,
     pub(crate) asker: u32,
-    /// How lossy the way is. Without it every attempt comes through, whatever the network says.
+    /// How lossy the way is. If it is `None`, every attempt passes, whatever the network says.
     pub(crate) loss: Option<u32>,
 }
 
@@ -43,7 +43,7 @@ impl<'w, N: Net> Link for MemberLink<'w, N> {
     }
 }
 
-// The packet that comes at an attempt at a part.
+// The packet that an attempt at a part receives.
 fn came<'a, N: Net>(link: &'a MemberLink<'_, N>, part: Part, attempt: u32) -> Option<&'a Packet>
     ensures { option_map (λ packet. packet.now) result ≡ if_comes
         (attempt_passes (N.passes link.now.net.now) link.now.asker link.now.loss part attempt)
@@ -56,7 +56,7 @@ fn came<'a, N: Net>(link: &'a MemberLink<'_, N>, part: Part, attempt: u32) -> Op
     }
 }
 
-// Whether the attempt at a part comes through.
+// Whether the attempt at a part passes.
 fn comes_through<'w, N: Net>(link: &MemberLink<'w, N>, part: Part, attempt: u32) -> bool
     ensures { result ≡ attempt_passes (N.passes link.now.net.now) link.now.asker link.now.loss part attempt }
 {
@@ -89,7 +89,7 @@ fn lent<'w>(others: &'w [Member], asker: u32, part: Part) -> Option<&'w Packet>
     lent_by(others, part)
 }
 
-// The packet of the first of these members that stores the part's.
+// The packet of the part at the first of these members that stores one.
 fn lent_by<'w>(members: &'w [Member], part: Part) -> Option<&'w Packet>
     ensures { option_map (λ packet. packet.now) result ≡ lent members.now part }
 {

@@ -1,4 +1,4 @@
-// What members gather of each other in a settle.
+// The parts that members gather from each other in a settle.
 ghost use Rattle.std.specs.Prelude.{◌≡◌, map, slice_set, IfOk, OnOk, OnErr};
 ghost use Rattle.group_model.specs.Publications.{Logs};
 ghost use Rattle.group_model.specs.World.{World, logs};
@@ -19,7 +19,7 @@ use repo_member::{FetchCounts, Group, Member};
 use std::alloc::{AllocError, Global};
 use std::thread::Threads;
 
-// One member fetches from the others: the gain.
+// Member `j` gathers parts from the others. The result counts what it received.
 fn fetch_all_at<N: Net + Sync, R: Threads + Sync>(
     rt: &R,
     alloc: Global,
@@ -54,7 +54,7 @@ fn fetch_all_at<N: Net + Sync, R: Threads + Sync>(
     kept
 }
 
-/// Each member gathers of the others, one after another: how many parts came, and how many octets.
+/// Each member gathers parts from the others, one after another: how many parts were received, and how many octets.
 pub(crate) fn fetch_all_for_members<N: Net + Sync, R: Threads + Sync>(
     rt: &R,
     alloc: Global,

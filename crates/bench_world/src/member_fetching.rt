@@ -1,4 +1,4 @@
-// What a member fetches of the others.
+// What a member fetches from the others.
 ghost use Rattle.std.specs.Prelude.{◌≡◌, length, IfOk, OnOk, OnErr};
 ghost use Rattle.group_model.specs.World.{World, logs};
 ghost use Rattle.group_model.specs.Steps.{after_fetch};
@@ -16,7 +16,7 @@ use repo_member::{Group, Member};
 use std::alloc::{AllocError, Global};
 use std::thread::Threads;
 
-/// One member fetches of the others.
+/// Member `j` fetches parts from the others.
 pub(crate) fn fetch_at<N: Net + Sync, R: Threads + Sync>(
     rt: &R,
     alloc: Global,

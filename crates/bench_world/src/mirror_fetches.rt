@@ -1,4 +1,4 @@
-// What mirrors gather of members in a settle.
+// The parts that mirrors gather from members in a settle.
 ghost use Rattle.std.specs.Prelude.{◌≡◌, ◌+◌, ◌<◌, ℕ, length, slice_set, IfOk, OnOk};
 ghost use Rattle.repo_mirror.specs.ConsistentMirrors.{IsConsistentMirror};
 ghost use Rattle.bench_world.specs.Conditions.{CanFetchAllFor, CanFetchAllForMirrors};
@@ -20,7 +20,7 @@ use std::alloc::{AllocError, Global};
 use std::thread::Threads;
 use svs_vector::Vector;
 
-// One mirror learns what all know, and gathers what members store: how many parts came.
+// Mirror `i` joins the vector `known` to its own, and gathers parts that members store: how many were received.
 fn fetch_all_for<R: Threads + Sync>(
     rt: &R,
     alloc: Global,
@@ -60,7 +60,7 @@ fn fetch_all_for<R: Threads + Sync>(
     came
 }
 
-/// Each mirror learns what all know, and gathers what members store, one after another: how many parts came.
+/// Each mirror joins the vector `known` to its own, and gathers parts that members store: how many all received.
 pub(crate) fn fetch_all_for_mirrors<R: Threads + Sync>(
     rt: &R,
     alloc: Global,

@@ -1,4 +1,4 @@
-// What a mirror fetches of members.
+// What a mirror fetches from members.
 ghost use Rattle.std.specs.Prelude.{◌≡◌, None, length, map, sum, slice_set, IfOk, OnOk, OnErr};
 ghost use Rattle.repo_member.specs.InGroup.{parts_fetched};
 ghost use Rattle.repo_mirror.specs.MirrorState.{mirror_holdings};
@@ -17,8 +17,8 @@ use repo_watch::Filter;
 use std::alloc::{AllocError, Global};
 use std::thread::Threads;
 
-/// A mirror fetches of members: how many parts were asked for, how many came, and how many attempts were made. To the
-/// network its number is by 16 higher.
+/// Mirror `i` fetches parts from members: how many were asked for, how many were received, and how many attempts were
+/// made. To the network the mirror has the number 16 + `i`.
 pub(crate) fn fetch_for<N: Net + Sync, R: Threads + Sync>(
     rt: &R,
     alloc: Global,

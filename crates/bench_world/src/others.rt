@@ -15,7 +15,7 @@ pub(crate) struct Others<'a> {
 }
 
 impl<'a> Others<'a> {
-    // A member of the group, or none where it is the one that was taken out.
+    // Member `number` of the group, or none where it is the one that was taken out.
     pub(crate) fn get(&self, number: u32) -> Option<&'a Member>
         requires there { number < length self.now.members.now + 1 }
         requires without { self.now.without < length self.now.members.now + 1 }
@@ -38,7 +38,7 @@ impl<'a> Others<'a> {
         &self.members[self.place(part.publisher)]
     }
 
-    // Where another member stands.
+    // The place of member `number` among the others.
     fn place(&self, number: u32) -> usize
         requires { number ≢ self.now.without }
         ensures { result ≡ place_among_others self.now.without number }

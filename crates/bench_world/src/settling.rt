@@ -16,9 +16,10 @@ use repo_member::{Group, Member};
 use std::alloc::{AllocError, Global};
 use std::thread::Threads;
 
-/// All claims end, each member announces what it knows and learns what all know, and fetches what the others store.
+/// All claims end. Each member announces its vector, joins all vectors to its own, and gathers parts that the others
+/// store.
 ///
-/// The answer has the sync Interests of all members, how many parts came, and how many octets.
+/// The result has the sync Interests of all members, how many parts were received, and how many octets.
 pub(crate) fn settle_members<N: Net + Sync, R: Threads + Sync>(
     rt: &R,
     alloc: Global,
@@ -35,7 +36,7 @@ pub(crate) fn settle_members<N: Net + Sync, R: Threads + Sync>(
     ensures octets { IfOk result (λ r. r.2 ≡ new_parts_sum (size_of g.now (logs begun)) begun begun.members) }
     ensures members { OnOk result (in_groups members.new.items ≡ map (settled_member begun) begun.members) }
     ensures stay { StayConsistent g.now (logs begun) members.old.items members.new.items }
-    // After running out of memory each member has come a part of the way.
+    // After running out of memory each member is partly settled.
     ensures err { OnErr result (ArePartlySettled begun (in_groups members.new.items)) }
 {
     let syncs = tell_all(alloc, g, members.as_slice())?;
@@ -45,7 +46,7 @@ pub(crate) fn settle_members<N: Net + Sync, R: Threads + Sync>(
     Ok((syncs, parts, octets))
 }
 
-/// The members' sync Interests are sent, for which capacity was reserved.
+/// Sends the members' sync Interests, for which capacity was reserved.
 pub(crate) fn send_all(sent: &mut Sent, syncs: Vec<MemberSync>)
     requires room { vec_len syncs ≤ sent.old.spare }
     requires few { length sent.old.packets + vec_len syncs < 4294967295 }

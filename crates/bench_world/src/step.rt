@@ -69,7 +69,7 @@ impl World {
         Ok(self.take_event(rt, event, net, draws)?)
     }
 
-    // Who is about to be asked by name has the names of its packets in order.
+    // A member that the event asks by name puts the names of its packets in order. The world stays as it is.
     fn order_names_for(&mut self, event: &Event)
         requires { EventInRange (length self.old.members) (event_value event.now) }
         ensures { self.new ≡ self.old }
@@ -81,7 +81,7 @@ impl World {
         }
     }
 
-    // The event is carried out, by the method of its kind.
+    // Carries out the event, by the method of its kind.
     fn carry_out<N: Net + Sync, D: Draws, R: Threads + Sync>(
         &mut self,
         rt: &R,

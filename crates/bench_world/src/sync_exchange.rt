@@ -20,7 +20,7 @@ pub(crate) struct MemberSync {
     pub(crate) octets: Vec<u8>,
 }
 
-/// What each member announces now.
+/// The sync Interest of each member now, with its vector.
 pub(crate) fn tell_all(
     alloc: Global,
     g: &Group,
@@ -45,7 +45,7 @@ pub(crate) fn tell_all(
     Ok(syncs)
 }
 
-/// What all members know together.
+/// The join of all members' vectors.
 pub(crate) fn all_known(alloc: Global, members: &[Member]) -> Result<Vector, AllocError>
     requires { (j : ℕ) → j < length members.now → length (state_at members.now j).known ≡ length members.now }
     ensures { IfOk result (λ all. all ≡ join_all (map (λ a. a.known) members.now)) }
@@ -57,7 +57,7 @@ pub(crate) fn all_known(alloc: Global, members: &[Member]) -> Result<Vector, All
     Ok(all)
 }
 
-/// All claims end, and every member learns what all know. It allocates nothing.
+/// All claims end, and every member joins the vector `known` to its own. It allocates nothing.
 pub(crate) fn learn_all(known: &Vector, members: &mut Vec<Member>)
     requires few { length known.now ≤ 16 }
     requires width { (j : ℕ) → j < length members.old.items
@@ -70,7 +70,7 @@ pub(crate) fn learn_all(known: &Vector, members: &mut Vec<Member>)
 {
     for member in members.iter_mut() {
         member.end_claims();
-        // What all know has no publication of a member that it didn't make.
+        // The vector `known` reports no publication of a member that the member didn't make.
         member.join_vector(known);
     }
 }

@@ -1,4 +1,4 @@
-// The publications of which somebody got something since some time.
+// The publications of which somebody gained something since some time.
 ghost use Rattle.std.specs.Prelude.{◌≡◌, true, false, []};
 ghost use Rattle.repo_plan.specs.Parts.{pair_of};
 ghost use Rattle.repo_plan.specs.Leaps.{IsLeastFrom};
@@ -8,7 +8,7 @@ use repo_plan::Part;
 use sorted_lists::SortedMap;
 use std::alloc::Global;
 
-/// Publications, or all that there are.
+/// A set of publications that were touched, or all publications.
 #[derive(Drop)]
 pub(crate) struct Touched {
     all: bool,
@@ -16,7 +16,7 @@ pub(crate) struct Touched {
 }
 
 impl Touched {
-    /// None of them.
+    /// No publication is touched.
     pub(crate) fn none(alloc: Global) -> Touched
         ensures all { result.all ≡ false }
         ensures publications { result.publications.entries ≡ [] }
@@ -27,7 +27,7 @@ impl Touched {
         }
     }
 
-    /// All of them.
+    /// Every publication is touched.
     pub(crate) fn all(alloc: Global) -> Touched
         ensures { result.all ≡ true }
     {
@@ -37,14 +37,14 @@ impl Touched {
         }
     }
 
-    /// Whether the part's publication is one of them.
+    /// Whether the publication of the part is touched.
     pub(crate) fn has(&self, part: Part) -> bool
         ensures { result ≡ touches self.now (pair_of part) }
     {
         self.all || self.publications.get((part.publisher, part.seq)).is_some()
     }
 
-    /// The least part of one of them that is not below this one.
+    /// The least part of a touched publication that is not below `part`.
     pub(crate) fn first_from(&self, part: Part) -> Option<Part>
         ensures { IsLeastFrom (λ u. touches self.now (pair_of u)) part result }
     {
@@ -61,7 +61,7 @@ impl Touched {
         }
     }
 
-    /// This publication is one of them from now on, and where there is no memory to note it, all are.
+    /// Notes the publication as touched. Where there is no memory to note it, all are touched from then on.
     pub(crate) fn note(&mut self, publisher: u32, seq: u16)
         ensures { Notes self.old (publisher, seq) self.new }
     {

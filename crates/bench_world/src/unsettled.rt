@@ -1,4 +1,4 @@
-// The publications of which somebody got something since all settled last, members and mirrors apart.
+// The publications of which somebody gained something since all settled last, for members and for mirrors apart.
 ghost use Rattle.std.specs.Prelude.{◌≡◌, true, Some, option_map};
 ghost use Rattle.repo_plan.specs.Parts.{pair_of};
 ghost use Rattle.bench_world.specs.Touching.{blocked_pair};
@@ -17,7 +17,7 @@ pub(crate) struct Unsettled {
 }
 
 impl Unsettled {
-    /// All, for both.
+    /// Every publication is touched, for members and for mirrors.
     pub(crate) fn all(alloc: Global) -> Unsettled
         ensures members { result.members.all ≡ true }
         ensures mirrors { result.mirrors.all ≡ true }
@@ -28,7 +28,7 @@ impl Unsettled {
         }
     }
 
-    /// This publication is one of them from now on.
+    /// Notes the publication as touched, for members and for mirrors.
     pub(crate) fn note(&mut self, publisher: u32, seq: u16)
         ensures { NotesBoth self.old (Some (publisher, seq)) self.new }
     {
@@ -36,7 +36,7 @@ impl Unsettled {
         self.mirrors.note(publisher, seq);
     }
 
-    /// So is the publication of what a fetcher claims, if it claims a part.
+    /// Notes the publication of the part that a fetcher claims, if it claims one.
     pub(crate) fn note_claimed(&mut self, claim: Option<Part>)
         ensures { NotesBoth self.old (option_map pair_of claim) self.new }
     {
@@ -45,7 +45,7 @@ impl Unsettled {
         }
     }
 
-    /// So is what a block of a member published, if it published anything.
+    /// Notes the publication that a block of member `m` completed, if it completed one.
     pub(crate) fn note_blocked(&mut self, m: u32, blocked: &Blocked)
         ensures { NotesBoth self.old (blocked_pair m blocked.now) self.new }
     {

@@ -28,7 +28,7 @@ use std::marker::Model;
 
 /// All members of a group and its mirrors, with what was sent between members, the time, and what was counted.
 ///
-/// A step that is refused has changed nothing, running out of memory included, except that of a settle.
+/// A step that is refused or runs out of memory has changed nothing, except a settle that ran out of memory.
 pub struct World {
     alloc: Global,
     group: Group,
@@ -45,7 +45,7 @@ pub struct World {
     unsettled: Unsettled,
 }
 
-// A world is dropped by one call, which is proved once, and not field by field wherever one is left.
+// A world is dropped by one call, which is proved once, and not field by field wherever one goes out of scope.
 impl Drop for World {
     fn drop(self) {
         let World {
@@ -66,8 +66,8 @@ impl Drop for World {
     }
 }
 
-// A world is seen as what its members are by themselves, and what was sent. What the group makes of that is `world_of`
-// it.
+// Contracts see a world as its members by themselves and what was sent (`GroupState`). `world_of` makes the model's
+// world of that.
 impl Model for World {
     ghost use Rattle.bench_world.specs.Worlds.{GroupState};
 
@@ -161,7 +161,7 @@ impl World {
         self.members[m as usize].log_len()
     }
 
-    // One step more was made, which changed nothing else.
+    // Counts one step more, and changes nothing else.
     fn count(&mut self)
         requires { self.old.steps < 100000 }
         ensures world { world_of self.new ≡ world_of self.old }
@@ -189,7 +189,7 @@ impl World {
     }
 }
 
-// Members that have nothing yet.
+// The members of a group, which have nothing yet.
 fn begin_all<D: Draws>(alloc: Global, g: &Group, draws: &D) -> Result<Vec<Member>, AllocError>
     ensures { IfOk result (λ members. members.items
         ≡ begun_all (length g.now.members.names) (D.draw draws.now)) }

@@ -1,4 +1,4 @@
--- Two seats that know what their attempts came to, put together; and the one seat at the end.
+-- Two seats that know the results of their attempts, put together; and the one seat at the end.
 use Rattle.std.proofs.Common.{◌≡◌, ⊎_elim, ℕ, ◌+◌, ◌<◌, List, [], ◌∷◌, ◌++◌, length, ap, sym, subst, ◌∙◌, arith, ne_eqb}
 use Rattle.std.specs.Prelude.{Option, Some, None, All, Result, Ok, Err, IfOk, get_or, fold}
 use Rattle.std.proofs.lemmas.List.Elements.{All-head, All-tail}

@@ -1,4 +1,4 @@
--- What an attempt at a job brings.
+-- What is received in an attempt at a job.
 use Rattle.std.specs.Prelude.{ℕ, ◌+◌, ◌<◌, List, [], slice_index_or, Option, Some, None, Result, Ok, Err}
 use Rattle.ndn_data.specs.Data.{Data}
 use Rattle.ndn_sign.specs.Ring.{NamedKey}
@@ -11,7 +11,7 @@ use Rattle.fetch_work.specs.declared.link.Lending.TheVariants as lent
 use Rattle.fetch_work.specs.declared.link.Reply.{Reply}
 use Rattle.fetch_work.specs.declared.link.Reply.TheVariants.{Lost, Came}
 
--- The octets that came.
+-- The octets that were received.
 abbrev pub reply_octets : Reply → Option (List ℕ)
 reply_octets Lost = None
 reply_octets (Came octets) = Some octets.now
@@ -27,17 +27,18 @@ abbrev pub if_passed : Result Data PartRefusal → CheckedPart → Option Checke
 if_passed (Ok d) part = Some part
 if_passed (Err refusal) part = None
 
--- The part, where octets came that pass for the want under the key that the ring has for its publisher.
+-- The part, where octets were received that pass for the want under the key that the ring has for its publisher.
 abbrev pub checked_reply : WantedPart → List NamedKey → Option (List ℕ) → Option CheckedPart
 checked_reply want ring None = None
 checked_reply want ring (Some octets) = if_passed (ring_verdict want ring octets) (checked_part want ring octets)
 
--- What an attempt at the job brings after so many others in the same phase, where a link gives these
--- answers. The link is given its number: after `base` attempts of earlier phases, the next.
+-- The part that is received in an attempt at the job, after `before` other attempts in the same phase, where the link
+-- answers as `answer` says. The link is given the attempt's number, counted over all phases: `base` attempts were made
+-- in earlier ones.
 abbrev pub packet_at : (WantedPart → ℕ → Option (List ℕ)) → List NamedKey → Job → ℕ → Option CheckedPart
 packet_at answer ring job before = checked_reply job.want ring (answer job.want (job.base + before + 1))
 
--- What is found under a number that no job has.
+-- The value under a number that no job has.
 abbrev pub no_job : Job
 no_job =
     record {
@@ -55,7 +56,7 @@ no_job =
 abbrev pub job_at : List Job → ℕ → Job
 job_at jobs i = slice_index_or jobs i no_job
 
--- The job can be tried so often: its publisher is in the ring, and its attempts are numbers below 2^21.
+-- The job can be tried `tries` times: its publisher is in the ring, and its attempts are numbers below 2^21.
 pub record CanBeTried (ring_length tries : ℕ) (job : Job) : Type 0 where
   pub known : job.want.part.publisher < ring_length
   pub few : job.base + tries < 2097152

@@ -7,8 +7,8 @@ use Rattle.repo_object.specs.Verdict.{CheckedPart}
 use Rattle.fetch_work.specs.Attempts.{packet_at}
 use Rattle.fetch_work.specs.Teams.{IsFirst}
 
--- For each job, in order, its part is what the first attempt brings that brings one, and its number is
--- that of the attempts up to it. Or the part is none, and the number is that of all tries.
+-- For each job, in order, its part is the result of the first attempt that has one, and its number is that of the
+-- attempts up to that one. Or the part is none, and the number is that of all tries.
 abbrev pub AreFirst : (WantedPart → ℕ → Option (List ℕ)) → List NamedKey → ℕ → List Job → List (Option CheckedPart)
     → List ℕ → Type 0
 AreFirst answer ring tries [] [] [] = Unit {0}

@@ -12,15 +12,14 @@ module _ {T : Type 0} where
     pub brought : (i a : ℕ) (x : T) → Has (i, a, x) v.done → packet_at i a ≡ Some x
     pub missed : (i a : ℕ) → 0 < pairs i a v.tried → triples i a v.done ≡ 0 → packet_at i a ≡ None
 
-  -- The seat of a worker that has done its part.
+  -- The seat of a worker that has done its work.
   pub record HasWorked (packet_at : ℕ → ℕ → Option T) (count : ℕ) (board : BoardTerms) (v : SeatData T) : Type 0 where
     pub seat : IsSeatOf board v
     pub share : v.shares ≡ 1
     pub knows : Knows packet_at count v
 
--- The result of an item whose attempts bring what f says, where it has so many tries. It is what the
--- first attempt brings that brings anything, and the number of attempts up to that one. Or it is none,
--- and the number is that of the tries.
+-- The result of an item that has `tries` tries, where attempt `a` has the result `f a`. It is that of the first attempt
+-- that has one, and the number of attempts up to that one. Or it is none, and the number is that of the tries.
 abbrev pub IsFirst : {T : Type 0} → (ℕ → Option T) → ℕ → Option T → ℕ → Type 0
 IsFirst f tries (Some x) n = (a : ℕ) × (a < tries) × (n ≡ a + 1) × (f a ≡ Some x) × ((b : ℕ) → b < a → f b ≡ None)
 IsFirst f tries None n = (n ≡ tries) × ((b : ℕ) → b < tries → f b ≡ None)

@@ -13,8 +13,8 @@ module _ {T : Type 0} where
     pub owed : v.owed ≡ []
     pub passed : v.passed ≡ []
 
-  -- The seat holds nothing. What it tried are different attempts at items of the board. Each value that
-  -- it finished an item with is what that attempt brings, and each other attempt brings none.
+  -- The seat holds nothing. The attempts that it made are different ones, at items of the board. Each value that it
+  -- finished an item with is the result of that attempt, and each other attempt has none.
   pub record Works (packet_at : ℕ → ℕ → Option T) (count tries : ℕ) (v : SeatData T) : Type 0 where
     pub holds : v.held ≡ []
     pub owes : (i : ℕ) → 0 < items i v.owed → i < count
@@ -23,15 +23,15 @@ module _ {T : Type 0} where
     pub brought : (i a : ℕ) (x : T) → Has (i, a, x) v.done → packet_at i a ≡ Some x
     pub missed : (i a : ℕ) → 0 < pairs i a v.tried → triples i a v.done ≡ 0 → packet_at i a ≡ None
 
-  -- What the seat tried are different attempts at so many items, at most as many for each as there are tries. Each
-  -- value that it finished an item with is what that attempt brings, and each other attempt brings none.
+  -- The attempts that the seat made are different ones, at most `count * tries`. Each value that it finished an item
+  -- with is the result of that attempt, and each other attempt has none.
   pub record HasTried (packet_at : ℕ → ℕ → Option T) (count tries : ℕ) (v : SeatData T) : Type 0 where
     pub finished : (i a : ℕ) (x : T) → Has (i, a, x) v.done → packet_at i a ≡ Some x
     pub failed : (i a : ℕ) → 0 < pairs i a v.tried → triples i a v.done ≡ 0 → packet_at i a ≡ None
     pub different : (i a : ℕ) → pairs i a v.tried ≤ 1
     pub few : length v.tried ≤ count * tries
 
-  -- What one visit of the item i makes of the seat v, which gave the item back or not.
+  -- The seat `w` after one visit of item `i` by the seat `v`. `gave_back` says whether the item was given back.
   pub record Visits (packet_at : ℕ → ℕ → Option T) (count tries i : ℕ) (v : SeatData T) (gave_back : Bool)
       (w : SeatData T) : Type 0 where
     pub works : Works packet_at count tries w
@@ -43,7 +43,8 @@ module _ {T : Type 0} where
     pub owes_less : gave_back ≡ false → (j : ℕ) → items j w.owed ≤ items j v.owed
     pub owes_none : gave_back ≡ false → items i w.owed ≡ 0
 
-  -- What visits of the items from lo to hi make of the seat v, which gave one of them back or none.
+  -- The seat `w` after visits of the items from `lo` to `hi` by the seat `v`. `gave_back` says whether one of them was
+  -- given back.
   pub record Scans (packet_at : ℕ → ℕ → Option T) (count tries lo hi : ℕ) (v : SeatData T) (gave_back : Bool)
       (w : SeatData T) : Type 0 where
     pub works : Works packet_at count tries w

@@ -13,11 +13,11 @@ use std::alloc::{AllocError, Global};
 use std::thread;
 use std::thread::Threads;
 
-// To begin a thread is worth it where it takes digests of about so many octets.
+// A thread is worth its start where it takes digests of about this many octets.
 const WORTH: u64 = 131_072;
 
-/// How many of so many workers are worth a thread each for digests over contents of so many octets. Where it is one, no
-/// thread is.
+/// How many of `workers` workers are worth a thread each for digests over contents of `octets` octets. Where the result
+/// is 1, no thread is.
 pub fn digest_workers(octets: u64, workers: u32) -> u32
     requires { 1 ≤ workers }
     ensures { result ≡ max (min (octets / 131072) workers) 1 }
@@ -25,8 +25,8 @@ pub fn digest_workers(octets: u64, workers: u32) -> u32
     (octets / WORTH).min(u64::from(workers)).max(1) as u32
 }
 
-/// The digests over the contents of publications that become whole, in their order, by at most so many workers. Each
-/// worker takes some that are neighbours; where there are few octets, fewer workers do.
+/// The digests over the contents of publications that become whole, in their order, by at most `workers` workers. Each
+/// worker takes neighbouring publications. For few octets there are fewer workers.
 pub fn digests<R: Threads + Sync>(
     rt: &R,
     alloc: Global,
@@ -70,7 +70,7 @@ fn octets_of(whole: &[Whole<'_>]) -> u64 {
     octets
 }
 
-// The same of one publication.
+// How many octets the contents of one publication have together, as far as a `u64` counts.
 fn octets_in(contents: &[&[u8]]) -> u64 {
     let mut octets: u64 = 0;
     for content in contents {

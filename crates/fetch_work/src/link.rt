@@ -9,7 +9,7 @@ use repo_object::{Packet, Want};
 pub enum Reply<'p> {
     /// The question or its answer was lost.
     Lost,
-    /// These octets came. Nobody has checked them.
+    /// These octets were received. Nobody has checked them.
     Came(&'p [u8]),
 }
 
@@ -18,13 +18,13 @@ pub enum Reply<'p> {
 pub enum Lending<'p> {
     /// The question or its answer was lost.
     Lost,
-    /// These octets came. Nobody has checked them.
+    /// These octets were received. Nobody has checked them.
     Octets(&'p [u8]),
-    /// This packet came, which may be shared. Nobody has checked it.
+    /// This packet was received, and may be shared. Nobody has checked it.
     Packet(&'p Packet),
 }
 
-/// What lends packets that are asked for.
+/// A link lends packets that are asked for.
 ///
 /// What it answers is a function of what it holds, of the want and of the attempt. It allocates nothing and can't fail.
 /// Threads may share it.
@@ -35,7 +35,7 @@ pub trait Link {
     fn ask<'a>(&'a self, want: &Want, attempt: u32) -> Reply<'a>
         ensures { reply_octets result ≡ answer self.now want.now attempt };
 
-    /// The same, for a link that has packets to share.
+    /// Asks for the part, of a link that may have packets to share. Attempts are counted as in `ask`.
     fn lend<'a>(&'a self, want: &Want, attempt: u32) -> Lending<'a>
         ensures { octets_lent result ≡ answer self.now want.now attempt }
     {

@@ -53,7 +53,7 @@ fn checked<'p>(job: &'p Job, octets: &'p [u8], ring: &'p KeyRing) -> Option<Chec
     check_part(&job.want, octets, ring).ok()
 }
 
-// The same of a packet.
+// The packet, where it passes for the job's want.
 fn checked_packet<'p>(job: &'p Job, packet: &'p Packet, ring: &'p KeyRing) -> Option<Checked<'p>>
     requires { job.now.want.part.publisher < length ring.now }
     ensures { result ≡ checked_reply job.now.want ring.now (Some packet.now) }

@@ -11,16 +11,16 @@ use repo_object::Job;
 use std::alloc::{AllocError, Global};
 use std::thread::Threads;
 
-// To begin one more thread is worth it where each has about so many jobs.
+// One more thread is worth its start where each has about this many jobs.
 const WORTH: usize = 64;
 
-// So few jobs are done by one worker.
+// At most this many jobs are done by one worker.
 const FEW: usize = 3;
 
-/// Tries each job until its packet comes, at most so many times, by so many workers in threads.
+/// Tries each job until its packet is received, at most `tries` times, by at most `workers` workers in threads.
 ///
-/// The answer is that of one worker who tries one job after another, whatever the number of workers and their turns.
-/// Where a thread can't be started, its work is done by the others.
+/// The answer is that of one worker that tries one job after another, whatever the number of workers and their turns.
+/// Where a thread can't be started, the others do its work.
 pub fn phase<'p, L: Link + Sync, R: Threads + Sync>(
     rt: &R,
     alloc: Global,
@@ -46,8 +46,8 @@ pub fn phase<'p, L: Link + Sync, R: Threads + Sync>(
     })
 }
 
-// How many workers so many jobs are worth. Where answers may be long in coming, two share all but a few, so that one
-// asks while the other waits. Else more than one are worth it only where each has its share of many.
+// How many workers `jobs` jobs are worth. Where answers may be long in coming, there are at least two for more than
+// `FEW` jobs, so that one asks while the other waits. Else there is more than one only where each has `WORTH` jobs.
 fn worthwhile(jobs: usize, may_wait: bool) -> u32
     requires { jobs ≤ 4096 }
     ensures { 1 ≤ result }

@@ -10,7 +10,7 @@ use std::alloc::{AllocError, Global};
 use std::thread;
 use std::thread::Threads;
 
-// A worker for each seat. Their first items lie evenly among all.
+// A worker for each seat. Their first items are spread evenly over all items.
 fn spread<T: Drop>(
     alloc: Global,
     seats: Vec<Seat<T>>,
@@ -28,7 +28,7 @@ fn spread<T: Drop>(
     Ok(workers)
 }
 
-// One worker's part of a phase.
+// The work of one worker in a phase.
 fn worked<T: Trial>(
     board: &Board<T::Value>,
     worker: Worker<T::Value>,
@@ -45,7 +45,8 @@ fn worked<T: Trial>(
     seat
 }
 
-// All workers, each in a thread of its own. Where a thread can't be started, another does its worker's part as well.
+// The work of all workers, each in a thread of its own. Where a thread can't be started, another does its worker's work
+// as well.
 fn work_all<T: Trial + Sync, R: Threads + Sync>(
     rt: &R,
     board: &Board<T::Value>,
@@ -71,7 +72,7 @@ fn work_all<T: Trial + Sync, R: Threads + Sync>(
     )
 }
 
-// What the others know goes to the one seat.
+// Joins what the other seats know to the one seat.
 fn join_all<T: Drop>(board: &Board<T>, mut seat: Seat<T>, others: Vec<Seat<T>>) -> Seat<T>
     requires seat { IsSeatOf board.now seat }
     requires others { All (λ other. IsSeatOf board.now other) others.items }
@@ -84,7 +85,7 @@ fn join_all<T: Drop>(board: &Board<T>, mut seat: Seat<T>, others: Vec<Seat<T>>) 
     seat
 }
 
-/// Tries each item by so many workers.
+/// Tries each item by `workers` workers.
 pub(crate) fn run<T: Trial + Sync, R: Threads + Sync>(
     rt: &R,
     alloc: Global,

@@ -1,6 +1,6 @@
 ghost use Rattle.std.specs.Prelude.{◌≡◌, ℕ, Option};
 
-// What is tried for the items of a board. It hides from threads that values borrow.
+// What an attempt at an item of a board is. Threads see only this trait, and not that values borrow.
 pub(crate) trait Trial {
     type Value: Send + Drop;
 
@@ -8,7 +8,7 @@ pub(crate) trait Trial {
 
     ghost packet_at: { Self → ℕ → ℕ → Option Self.Value };
 
-    // What an attempt at the item brings, after so many others.
+    // The result of an attempt at the item, after `before` other attempts.
     fn attempt(&self, item: usize, before: u32) -> Option<Self::Value>
         requires { can self.now item before }
         ensures { result ≡ packet_at self.now item before };

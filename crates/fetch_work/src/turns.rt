@@ -42,7 +42,7 @@ fn visit<T: Trial>(
     }
 }
 
-// Visits each item of a range once. True where it gave one back.
+// Visits each item from `from` to `to` once. True where it gave one back.
 fn scan<T: Trial>(
     board: &Board<T::Value>,
     seat: &mut Seat<T::Value>,
@@ -65,7 +65,7 @@ fn scan<T: Trial>(
     gave_back
 }
 
-// Visits each item once, from `first` on and round. True where it gave one back.
+// Visits each item once: those from `first` on, and then those before it. True where it gave one back.
 fn round<T: Trial>(
     board: &Board<T::Value>,
     seat: &mut Seat<T::Value>,

@@ -17,11 +17,11 @@ use std::marker::Model;
 #[derive(Drop)]
 pub struct Worker<T> {
     pub(crate) seat: Seat<T>,
-    // The item that its rounds begin at.
+    // The item at which its rounds begin.
     pub(crate) first: usize,
 }
 
-// It is seen as its seat.
+// A worker is seen as its seat.
 impl<T> Model for Worker<T> {
     ghost use Rattle.fetch_board.specs.Seats.{SeatData};
 
@@ -37,7 +37,7 @@ impl<T> Worker<T> {
         Worker::beginning_at(seat, 0)
     }
 
-    /// A worker whose rounds begin at that item, so that workers who begin together meet different items.
+    /// A worker whose rounds begin at item `first`, so that workers that begin together meet different items.
     pub(crate) fn beginning_at(seat: Seat<T>, first: usize) -> Worker<T>
         ensures { result ≡ seat }
     {
@@ -53,7 +53,7 @@ impl<T> Worker<T> {
 }
 
 impl<'p> Worker<Checked<'p>> {
-    /// Tries the jobs of a board, item `i` being job `i`, until none of them is left that is wanted.
+    /// Tries the jobs of a board, item `i` being job `i`, until none of them is wanted any more.
     ///
     /// It allocates nothing. It makes at most one attempt for each item and each of its tries, and goes round the items
     /// at most once more than that.

@@ -47,7 +47,7 @@ impl World {
     }
 }
 
-// The sync Interest of a member that published an object is sent, for which capacity was reserved.
+// Sends the sync Interest of a member that published an object. Capacity was reserved for it.
 fn send_blocked(sent: &mut Sent, m: u32, mut vector: Vec<u16>, blocked: Blocked) -> Happened
     requires room { 0 < sent.old.spare }
     requires few { length sent.old.packets < 4294967295 }

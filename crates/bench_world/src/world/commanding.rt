@@ -20,7 +20,7 @@ use repo_object::key_name;
 use std::alloc::{AllocError, Global};
 
 impl World {
-    // A client makes a command for a member, which does what it asks for: what it answers.
+    // A client makes a command for a member, and the member carries it out: what the member answers.
     fn issue(&mut self, m: u32, client: u32, command: Command) -> Result<Answer, AllocError>
         requires there { m < length self.old.members }
         requires client { client < length self.old.keys.clients.names }
@@ -139,7 +139,7 @@ impl World {
 
     /// A member is given octets as a command.
     ///
-    /// They are foreign where they pass, and the client whose command they are made none of that kind for the member.
+    /// They are foreign where they pass, and the client whose command they are didn't make that command for the member.
     pub(crate) fn order(&mut self, m: u32, octets: &[u8]) -> Result<Happened, EventError>
         requires there { m < length self.old.members }
         requires few { self.old.steps < 100000 }
@@ -179,7 +179,7 @@ fn made(
 }
 
 // The verdict on octets that a member is given as a command. They are foreign where they pass, and the client whose
-// command they are made none of that kind for the member.
+// command they are didn't make that command for the member.
 fn order_verdict(
     alloc: Global,
     g: &Group,

@@ -1,4 +1,4 @@
-// What a member fetches of the others.
+// What a member fetches from the others.
 ghost use Rattle.std.specs.Prelude.{◌+◌, ◌<◌, ◌≤◌, length};
 ghost use Rattle.bench_world.specs.Serving.{environment};
 ghost use Rattle.bench_world.specs.EventValues.{EventValue};
@@ -11,8 +11,8 @@ use bench_net::Net;
 use std::thread::Threads;
 
 impl World {
-    /// A member asks the others for the least 4,096 parts that it wants and that no fetcher of it claims, each so often
-    /// at most.
+    /// A member asks the others for the least 4,096 parts that it wants and that no fetcher of it claims, with at most
+    /// `tries` attempts at each.
     pub(crate) fn fetch<N: Net + Sync, R: Threads + Sync>(
         &mut self,
         rt: &R,

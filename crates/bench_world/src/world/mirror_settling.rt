@@ -14,11 +14,11 @@ use std::alloc::AllocError;
 use std::thread::Threads;
 
 impl World {
-    /// Each mirror learns what all members know, and gains every part that its pattern accepts and that some member
-    /// holds with those that list it: how many parts came. Attempts aren't counted, and nothing is asked of the
-    /// network.
+    /// Each mirror joins all members' vectors to its own, and gains every part that its pattern accepts and that some
+    /// member holds with those that list it: how many parts were gained. Attempts aren't counted, and nothing is asked
+    /// of the network.
     ///
-    /// After running out of memory each mirror has come a part of the way.
+    /// After running out of memory each mirror is partly settled.
     pub fn settle_mirrors<R: Threads + Sync>(
         &mut self,
         rt: &R,

@@ -55,7 +55,7 @@ impl From<AllocError> for MirrorFault {
 }
 
 impl World {
-    /// A mirror more, which knows of nothing. The answer is its number, from 0 on.
+    /// Adds a mirror, which knows of nothing. The result is its number, from 0 on.
     pub fn add_mirror(&mut self, pattern: Pattern) -> Result<u32, MirrorFault>
         ensures full { (result ≡ Err MirrorFault.Full) ↔ (mirror_limit ≤ length self.old.mirrors) }
         ensures number { IfOk result (λ i. i ≡ length self.old.mirrors) }
@@ -74,7 +74,7 @@ impl World {
         Ok(number)
     }
 
-    /// A mirror learns the vector of a sync Interest that was sent, by its number. A refusal has its name.
+    /// Mirror `i` joins the vector of the sync Interest of number `k` to its own. A refusal has its name.
     pub fn mirror_learns(&mut self, i: u32, k: u32) -> Result<(), EventError>
         requires there { i < length self.old.mirrors }
         ensures sent { OnOk result (unless_sent (world_of self.old) k ≡ None) }
@@ -96,7 +96,7 @@ impl World {
         Ok(())
     }
 
-    /// A mirror learns the vector of a sync Interest that was sent, by its number. It is refused, by number 5, where no
+    /// Mirror `i` joins the vector of the sync Interest of number `k` to its own. It is refused, by number 5, where no
     /// such packet was sent.
     pub fn mirror_deliver(&mut self, i: u32, k: u32) -> Result<(), StepFault>
         requires there { i < length self.old.mirrors }
@@ -113,8 +113,9 @@ impl World {
         Ok(self.mirror_learns(i, k)?)
     }
 
-    /// A mirror asks the members for the least 4,096 parts that it wants, each so often at most: how many were asked
-    /// for, how many came, and how many attempts were made. To the network the mirror's number is by 16 higher.
+    /// Mirror `i` asks the members for the least 4,096 parts that it wants, with at most `tries` attempts at each: how
+    /// many were asked for, how many were received, and how many attempts were made. To the network the mirror has the
+    /// number 16 + `i`.
     pub fn mirror_fetch<N: Net + Sync, R: Threads + Sync>(
         &mut self,
         rt: &R,
@@ -134,7 +135,7 @@ impl World {
               (mirror_fetches (N.passes net.now) self.old.members i tries loss (mirror_at self.old.mirrors i));
           steps = self.old.steps + 1;
         }) }
-        // In the group's words: just those of the parts that came are held too.
+        // As the model has it: of the parts that were asked for, just those that were received are held too.
         ensures fetched { OnOk result (HasFetched (N.passes net.now) (world_of self.old) i tries loss
             (mirror_at self.old.mirrors i) (mirror_at self.new.mirrors i)) }
         ensures counts { IfOk result (AreMirrorCounts (N.passes net.now) (world_of self.old) i tries loss

@@ -37,7 +37,7 @@ impl World {
         ensures { IsStep (drawing (D.draw draws.now)) (EventValue.Publish m name.now size content.now)
             self.old result self.new }
     {
-        // There are few enough segments, so only memory can be wanting.
+        // There are few enough segments, so only memory can run out.
         let Ok(contents) = cut(self.alloc, content, size as usize) else {
             return Err(EventError::NoMemory);
         };

@@ -49,7 +49,7 @@ impl World {
         })
     }
 
-    /// What was counted.
+    /// The counts of sync Interests, deliveries, attempts, parts and octets.
     pub(crate) fn traffic(&mut self) -> Happened
         requires few { self.old.steps < 100000 }
         ensures { IsStep (lossless self.old.keys) EventValue.Traffic self.old (Ok result) self.new }

@@ -48,7 +48,7 @@ impl World {
         Ok(answered(m, u64::from(f), kept.is_some()))
     }
 
-    /// Octets come as a packet of what a member's fetcher claims.
+    /// Octets are received as a packet of the part that a member's fetcher claims.
     ///
     /// They are foreign where they pass for the part and aren't its publisher's packet.
     pub(crate) fn feed(&mut self, m: u32, f: u32, octets: &[u8]) -> Result<Happened, EventError>
@@ -144,7 +144,7 @@ fn answered(m: u32, f: u64, kept: bool) -> Happened
     }
 }
 
-// How many parts become held, where so many octets are kept, or none.
+// How many parts become held: one if octets are kept, and else none.
 fn parts_of(kept: Option<u64>) -> u64
     ensures { result ≡ parts_kept kept }
 {

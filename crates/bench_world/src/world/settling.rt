@@ -18,11 +18,11 @@ use std::alloc::AllocError;
 use std::thread::Threads;
 
 impl World {
-    /// All claims end, each member learns what all know, and gains every part that some member holds with its record
-    /// and that it hasn't deleted: how many parts came. The sync states aren't reset, which the step of a settle does.
+    /// All claims end. Each member joins all vectors to its own, and gains every part that some member holds with its
+    /// record and that it hasn't deleted: how many parts were gained. The sync states aren't reset, which the step of a
+    /// settle does.
     ///
-    /// The network is asked, but its answers decide nothing. After running out of memory each member has come a part of
-    /// the way.
+    /// The network is asked, but its answers decide nothing. After running out of memory each member is partly settled.
     pub fn settle<N: Net + Sync, R: Threads + Sync>(
         &mut self,
         rt: &R,

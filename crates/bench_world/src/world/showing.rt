@@ -9,14 +9,14 @@ use super::World;
 use repo_mirror::Mirror;
 
 impl World {
-    /// The member that sent the sync Interest of a number, counted from 1; none where so many weren't sent.
+    /// The member that sent the sync Interest of number `k`, counted from 1; none where no such sync Interest was sent.
     pub fn sender(&self, k: u32) -> Option<u32>
         ensures { result ≡ sender_at (world_of self.now) k }
     {
         self.sent.sender(k)
     }
 
-    /// The octets of the sync Interest of a number, counted from 1; none where so many weren't sent.
+    /// The octets of the sync Interest of number `k`, counted from 1; none where no such sync Interest was sent.
     pub fn sync_octets(&self, k: u32) -> Option<&[u8]>
         ensures { option_map (λ octets. octets.now) result ≡ sync_octets_at self.now.keys (world_of self.now) k }
     {

@@ -30,7 +30,7 @@ impl World {
         let received = vector_of(self.alloc, numbers)?;
         let member = &mut self.members[m as usize];
         let draw = draws.draw(m, member.next_draw());
-        // A member sent it, so it reports no publication that there isn't.
+        // A member sent the vector, so it reports only publications that exist.
         let mode = member.hear_vector(&received, self.time, draw);
         self.delivered += 1;
         self.steps += 1;
@@ -106,7 +106,7 @@ fn delivered(k: u64, m: u32, mode: Mode) -> Happened
     }
 }
 
-// The sync Interest of a member that fired is sent, if there is one, for which capacity was reserved.
+// Sends the sync Interest of a member that fired, if there is one. Capacity was reserved for it.
 fn send_fired(sent: &mut Sent, m: u32, vector: Vec<u16>, fire: Fire) -> Happened
     requires room { 0 < sent.old.spare }
     requires few { length sent.old.packets < 4294967295 }

@@ -12,13 +12,15 @@ use Rattle.bench_world.proofs.world.World.take_event.Goals as goal
 
 pub order_names_for-requires : goal.order_names_for-requires
 order_names_for-requires g c =
-    subst (λ n. EventInRange n (event_value c.args.event.now)) (sym c.cite_soundness.ensures.names) c.requires.fits.ready
+    subst (λ n. EventInRange n (event_value c.args.event.now)) (sym c.cite_soundness.ensures.names)
+    c.requires.fits.ready
 
 pub carry_out-requires-clause-ready : goal.carry_out-requires-clause-ready
 carry_out-requires-clause-ready g c κs within =
     subst (λ (s : GroupState). EventInRange (length s.members) (event_value c.args.event.now))
     (sym c.order_names_for.ensures)
-    (subst (λ n. EventInRange n (event_value c.args.event.now)) (sym c.cite_soundness.ensures.names) c.requires.fits.ready)
+    (subst (λ n. EventInRange n (event_value c.args.event.now)) (sym c.cite_soundness.ensures.names)
+    c.requires.fits.ready)
 
 pub returns : goal.returns
 returns g c =
