@@ -30,7 +30,7 @@ use std::thread::Threads;
 // The group and its members, before other lines.
 const PRE: &str = "group /g\nmember alice /alice 6b31\nmember bob /bob 6b32\n";
 
-// What is printed stands so after the line that prints it.
+// In a transcript this stands before each line that a script's line prints.
 const PRINTED: &str = "> ";
 
 // An insertion is begun, filled and deleted.
@@ -92,7 +92,7 @@ fn run_over<R: Threads + Sync + AllocGlobal + Abort, S: Source, K: Sink, N: Net 
     run(rt, rt.alloc(), &words, source, sink, given.0, given.1, end)
 }
 
-// Runs with these words over an open network. No world is left but by a run that is done.
+// Runs with these words over an open network. There is a world at the end only of a run that is done.
 fn status_of<R: Threads + Sync + AllocGlobal + Abort, S: Source, K: Sink>(
     rt: &R,
     words: &str,
@@ -106,13 +106,13 @@ fn status_of<R: Threads + Sync + AllocGlobal + Abort, S: Source, K: Sink>(
     answered
 }
 
-// What was answered and written is this.
+// Expects this status and this text of what was answered and written.
 fn compare(rt: &impl Abort, came: (Status, &[u8]), wanted: Status, text: &str) {
     same(rt, str::from_utf8(came.1), Ok(text), "printed");
     same(rt, came.0, wanted, "status");
 }
 
-// Expects a status and what is written.
+// Expects a status and a text of a run with these words over this source.
 fn expect_from<R: Threads + Sync + AllocGlobal + Abort, S: Source>(
     rt: &R,
     words: &str,
@@ -125,7 +125,7 @@ fn expect_from<R: Threads + Sync + AllocGlobal + Abort, S: Source>(
     compare(rt, (answered, sink.octets()), wanted, text);
 }
 
-// The same over an input in pieces of so many octets.
+// Expects a status and a text of a run with these words over an input in pieces of `piece` octets.
 fn expect<R: Threads + Sync + AllocGlobal + Abort>(
     rt: &R,
     words: &str,

@@ -229,7 +229,7 @@ short_lacks (Some x) (Some y) text f short =
 
 -- ---- the line of the first octet that is lacking
 
--- so many lines lack nothing, and one more does
+-- the output lacks nothing of the report of the first `before` lines, and something of that of one line more
 record FirstLack (env : RunEnvironment) (x y input : List ℕ) : Type 0 where
   pub before : ℕ
   pub there : LacksText (Some x) (Some y) (report_through env before input) → ⊥
@@ -407,7 +407,7 @@ module _ (env : RunEnvironment) (held : List ℕ) (r : Reached) (a b d : Option 
         last = λ e. absurd (never Done (λ x. x) e);
       }
 
--- the run came to the end of its input
+-- the run reached the end of its input
 pub ran_finished : (env : RunEnvironment) (held : List ℕ) (r : Reached) (a b d : Option (List ℕ)) (input rest : List ℕ)
     (end : Option GroupState) (status : Status) → Carried env held r a b input rest → rest ≡ []
     → length held ≤ 65536 → Finishes env r (lines held) end b d status → Ran env a d status end input rest

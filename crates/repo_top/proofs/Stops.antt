@@ -94,7 +94,7 @@ module _ (env : RunEnvironment) (r : Reached) (line : List ℕ) (a b : Option (L
         prefix = prefix_longer a b [] s.text h.prefix;
       }
 
-  -- it is refused or foreign, or memory was wanting
+  -- the line is refused or foreign, or memory ran out
   pub stops_halted : (why : LineError) (status : Status) → IsLineError (evaluated_next env r line) why
       → Halts (r.lines + 1) why a b status → Stops env r line a b status
   stops_halted (error.Refused why) status is h = record {

@@ -29,7 +29,8 @@ pub record Took (env : RunEnvironment) (r : Reached) (line : List ℕ) (next : R
   pub then : next ≡ reached_after r line report next.state
   pub gained : GainsText old new report
 
--- What a status says of a run whose text an output was to gain.
+-- Where the status is the end of a run, it is that of `s`, and the output gained the text of `s`. In every case the
+-- output gained a prefix of that text.
 pub record IsStatusOf (s : ScriptRun) (old new : Option (List ℕ)) (status : Status) : Type 0 where
   pub ending : IsEndOfRun status → status ≡ status_of s.ending
   pub text : IsEndOfRun status → GainsText old new s.text
@@ -45,7 +46,7 @@ IsStopping WriteFault = ⊤
 IsStopping NoMemory = ⊤
 IsStopping (Foreign line) = ⊤
 
--- A run stopped so at the line of this number.
+-- A run stopped for the reason `why` at the line of this number: its status, and the text that the output gained.
 pub record Halts (line : ℕ) (why : LineError) (old new : Option (List ℕ)) (status : Status) : Type 0 where
   pub stops : IsStopping status
   pub same : IsEndOfRun status → status ≡ line_error_status line why
@@ -59,13 +60,13 @@ pub record Stops (env : RunEnvironment) (r : Reached) (line : List ℕ) (old new
   pub tells : (others : List (List ℕ)) → IsStatusOf (run_from env r (line ∷ others)) old new status
   pub at : (number : ℕ) → IsStoppedAt status number → number ≡ r.lines + 1
 
--- The world that is left is that of the run, with its mirrors.
+-- `end` is the world of the run `s`, with its names, keys and mirrors.
 pub record LeavesWorld (end : Option GroupState) (s : ScriptRun) : Type 0 where
   pub world : option_map world_of end ≡ s.world
   pub keys : IfSome end (λ world. world.keys ≡ s.keys)
   pub mirrors : IfSome end (λ world. map mirror_as world.mirrors ≡ s.mirrors)
 
--- A run ended with the last line, or before it where there is none, and left this world where it is done.
+-- A run ended with the last line, or before it where there is none. Where the run is done, `end` is its world.
 pub record Finishes (env : RunEnvironment) (r : Reached) (lines_left : List (List ℕ)) (end : Option GroupState)
     (old new : Option (List ℕ)) (status : Status) : Type 0 where
   pub tells : IsStatusOf (run_from env r lines_left) old new status
@@ -75,13 +76,13 @@ pub record Finishes (env : RunEnvironment) (r : Reached) (lines_left : List (Lis
 
 -- ---- a run
 
--- What holds of an input and of what is left of it, where both are known.
+-- `P` holds of an input and of its unread octets, where both are known.
 abbrev pub Known : Option (List ℕ) → Option (List ℕ) → (List ℕ → List ℕ → Type 0) → Type 0
 Known None now P = ⊤
 Known (Some input) None P = ⊥
 Known (Some input) (Some rest) P = P input rest
 
--- Lines were carried out, and then these octets are held.
+-- Lines were carried out, `r` is reached after them, and the octets `held` are read and not carried out.
 pub record Carried (env : RunEnvironment) (held : List ℕ) (r : Reached) (old new : Option (List ℕ))
     (input rest : List ℕ) : Type 0 where
   pub done : List (List ℕ)
@@ -96,22 +97,22 @@ pub record Carried (env : RunEnvironment) (held : List ℕ) (r : Reached) (old n
       → run_from env nothing_reached (done ++ others) ≡ after_text text (run_from env r others)
   pub gained : GainsText old new text
 
--- A script is carried out line by line.
+-- What was written and read when a run ended: the script is carried out line by line.
 pub record WritesLines (env : RunEnvironment) (old new : Option (List ℕ)) (status : Status) (input rest : List ℕ)
     : Type 0 where
-  -- Whatever comes, what was written is a prefix of what is reported of the lines that were taken whole, and after
+  -- Whatever the status, what was written is a prefix of the report of the lines that were taken whole, and after
   -- `WriteFault` not the whole of it.
   pub prefix_of_taken : GainsPrefix old new (report_of env (lines_taken input rest)) (status ≡ WriteFault)
-  -- After `ReadFault` it is all of that.
+  -- After `ReadFault` what was written is the whole report of the lines that were taken whole.
   pub exact_after_read_fault : status ≡ ReadFault
       → GainsText old new (report_of env (lines_so_far (taken input rest)))
   -- At most 65,536 octets are taken past the end of the line that is refused or foreign.
   pub bounded_after_refusal : (line : ℕ) → IsStoppedAt status line → IsTakenNear line input rest
-  -- After `WriteFault` at most so many are taken past the end of the line of whose report the first octet is that was
-  -- not written.
+  -- After `WriteFault` at most 65,536 octets are taken past the end of the line whose report has the first octet that
+  -- was not written.
   pub bounded_after_write_fault : status ≡ WriteFault → IfSome old (λ _. FallsShortNear env old new input rest)
 
--- The result of a run over a known input, which left this world where it is done.
+-- The result of a run over a known input. Where the run is done, `end` is its world.
 pub record Ran (env : RunEnvironment) (old new : Option (List ℕ)) (status : Status) (end : Option GroupState)
     (input rest : List ℕ) : Type 0 where
   pub tells : IsStatusOf (run_of env input) old new status

@@ -11,13 +11,13 @@ use Rattle.repo_top.specs.Generator.{gen_run}
 use Rattle.repo_top.specs.declared.asked.Asked.{Asked}
 use Rattle.repo_top.specs.declared.asked.Asked.TheVariants.{Run, Inspect, Gen}
 
--- 1 to 16 members, 1 to 2,000 objects and a seed of at most 18 digits
+-- The number of members, the number of objects and the seed, where there are all three.
 abbrev pub measures_of : Option ℕ → Option ℕ → Option ℕ → Option GeneratorInputs
 measures_of (Some members) (Some objects) (Some seed) =
     Some (record { members = members; objects = objects; seed = seed })
 measures_of _ _ _ = None
 
--- `gen MEMBERS OBJECTS SEED`
+-- `gen MEMBERS OBJECTS SEED`: 1 to 16 members, 1 to 2,000 objects and a seed of at most 18 digits.
 abbrev pub gen_of : List (List ℕ) → Option GeneratorInputs
 gen_of (word ∷ members ∷ objects ∷ seed ∷ []) =
     if bytes_eq word (codes "gen")
@@ -70,7 +70,7 @@ InputIsRead (Some Run) = ⊤
 InputIsRead (Some Inspect) = ⊤
 InputIsRead (Some (Gen measures)) = ⊥
 
--- The result of the words over an input, where it is known or not needed.
+-- The run that the words ask for over an input, where the input is known or not needed.
 abbrev pub asked_run : RunEnvironment → Option Asked → Option (List ℕ) → Option ScriptRun
 asked_run env None input = None
 asked_run env (Some Run) input = option_map (run_of env) input

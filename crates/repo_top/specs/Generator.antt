@@ -10,7 +10,7 @@ use Rattle.script_story.specs.ScriptRun.{ScriptRun, plain_run}
 abbrev pub next_state : ℕ → ℕ
 next_state state = (state * 6364136223846793005 + 1442695040888963407) % 18446744073709551616
 
--- The state after so many others; the seed is the first.
+-- The state after `n` others. The seed is the first state.
 unfoldable pub generator_state : ℕ → ℕ → ℕ
 generator_state seed zero = seed
 generator_state seed (suc n) = next_state (generator_state seed n)
@@ -34,14 +34,14 @@ member_text member =
     codes "member m" ++ decimal member ++ codes " /n/" ++ decimal member ++ codes " 6b"
     ++ octet_text member ++ codes "\n"
 
--- One of so many members publishes the `object`th object, of 100 to 500 equal octets.
+-- One of `members` members publishes the `object`th object, of 100 to 500 equal octets.
 unfoldable pub publish_line : ℕ → ℕ → ℕ → List ℕ
 publish_line members object draw =
     codes "publish m" ++ decimal (1 + draw % members) ++ codes " /o/" ++ decimal object
     ++ codes " 100 fill:" ++ decimal (100 * (1 + draw / 16 % 5)) ++ codes ":"
     ++ decimal (draw / 128 % 256) ++ codes "\n"
 
--- A member hears of the `object`th object, and fetches what it lacks.
+-- The line in which a member hears the `object`th sync Interest.
 unfoldable pub deliver_text : ℕ → ℕ → List ℕ
 deliver_text object member =
     codes "deliver " ++ decimal object ++ codes " m" ++ decimal member ++ codes "\n"
@@ -50,11 +50,11 @@ deliver_text object member =
 unfoldable pub fetch_line : ℕ → List ℕ
 fetch_line member = codes "fetch m" ++ decimal member ++ codes " 4 3 200\n"
 
--- A member's turn after an object: it hears of the object, and fetches.
+-- A member's turn after an object: it hears the sync Interest of that number, and fetches.
 abbrev pub turn_text : ℕ → ℕ → List ℕ
 turn_text object member = deliver_text object member ++ fetch_line member
 
--- So do all members at every tenth object.
+-- The turns of all members after every tenth object, and nothing after another object.
 abbrev pub turns_text : ℕ → ℕ → List ℕ
 turns_text members object = if object % 10 == 0 then texts (turn_text object) members else []
 
@@ -63,8 +63,8 @@ abbrev pub object_text : ℕ → ℕ → ℕ → List ℕ
 object_text members seed object =
     publish_line members object (drawn (generator_state seed object)) ++ turns_text members object
 
--- The script of so many members and objects: the group and its members, the objects, and a settle at
--- the end.
+-- The script with these numbers of members and objects, and this seed: the group and its members, the objects, and a
+-- settle and a summary at the end.
 unfoldable pub gen_text : GeneratorInputs → List ℕ
 gen_text m =
     codes "group /g\n" ++ texts member_text m.members

@@ -16,11 +16,11 @@ use Rattle.script_story.specs.ScriptRun.{ScriptRun, plain_run, refused}
 abbrev pub is_space : ℕ → Bool
 is_space octet = octet == 32 || octet == 9 || octet == 10 || octet == 13
 
--- What stands between spaces.
+-- The input without its spaces, tabs, line feeds and carriage returns.
 abbrev pub without_spaces : List ℕ → List ℕ
 without_spaces input = filter (λ octet. not (is_space octet)) input
 
--- A fault of the elements ends the run too, but with its own line alone.
+-- The end of an inspection: done, or refused as BadPacket at line 1 where the elements have a fault.
 abbrev pub sound_ending : Option TlvFault → Ending
 sound_ending None = Done
 sound_ending (Some fault) = Refused 1 (refusal_number BadPacket)
@@ -29,7 +29,7 @@ sound_ending (Some fault) = Refused 1 (refusal_number BadPacket)
 abbrev pub lines_run : Lines → ScriptRun
 lines_run lines = plain_run (printed_with_fault lines.text lines.fault) (sound_ending lines.fault)
 
--- The octets are inspected, where a packet may have so many.
+-- The run of an inspection of these octets. More than 8,800 of them are refused as Limit.
 abbrev pub octets_run : List ℕ → ScriptRun
 octets_run octets =
     if nat_lt 8800 (length octets) then refused Limit else lines_run (inspected octets)
@@ -40,7 +40,7 @@ decoded_run (Ok octets) = octets_run octets
 decoded_run (Err e) = refused Syntax
 
 -- The run of an input that is inspected: pairs of hexadecimal digits, with spaces anywhere. An input of more than
--- 16,777,216 octets is refused before anything else is asked of it.
+-- 16,777,216 octets is refused, whatever they are.
 unfoldable pub inspect_run : List ℕ → ScriptRun
 inspect_run input =
     if nat_lt 16777216 (length input) then refused Limit

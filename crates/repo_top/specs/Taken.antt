@@ -12,7 +12,7 @@ use Rattle.script_story.specs.ScriptRun.{nothing_reached, run_from}
 
 -- ---- lines
 
--- The octets that were taken of an input of which these are left.
+-- The octets that were taken of `input`, of which `rest` is unread.
 abbrev pub taken : List ℕ → List ℕ → List ℕ
 taken input rest = take (length input - length rest) input
 
@@ -20,11 +20,12 @@ taken input rest = take (length input - length rest) input
 abbrev pub can_be_evaluated : List ℕ → Bool
 can_be_evaluated line = has_feed line || nat_lt line_octets (length line)
 
--- The lines of the octets so far.
+-- The lines of these octets that can be evaluated.
 abbrev pub lines_so_far : List ℕ → List (List ℕ)
 lines_so_far octets = filter can_be_evaluated (lines octets)
 
--- The same of an input of which these octets are left: where none are, the last line needs no line feed.
+-- The lines that were taken of `input`, of which `rest` is unread. Where nothing is unread, the last line needs no line
+-- feed.
 abbrev pub lines_taken : List ℕ → List ℕ → List (List ℕ)
 lines_taken input [] = lines input
 lines_taken input (octet ∷ rest) = lines_so_far (taken input (octet ∷ rest))
@@ -55,8 +56,8 @@ end_of_line line input = length (concat (take line (lines input)))
 abbrev pub IsTakenNear : ℕ → List ℕ → List ℕ → Type 0
 IsTakenNear line input rest = length input ≤ length rest + (end_of_line line input + 65536)
 
--- A report has a first octet that an output lacks. It is of the line after so many, whose own reports are all there,
--- and at most 65,536 octets past the end of that line were taken.
+-- An output has the report of the first `before` lines and lacks octets of the report of the line after them, and at
+-- most 65,536 octets past the end of that line were taken.
 pub record FallsShortNear (env : RunEnvironment) (old new : Option (List ℕ)) (input rest : List ℕ) : Type 0 where
   pub before : ℕ
   pub there : LacksText old new (report_through env before input) → ⊥

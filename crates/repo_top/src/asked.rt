@@ -14,7 +14,7 @@ pub(crate) enum Asked {
     Run,
     // The lines of the elements whose digits the source gives.
     Inspect,
-    // A script of so many members and objects.
+    // A script with these numbers of members and objects, and this seed.
     Gen(GeneratorInputs),
 }
 

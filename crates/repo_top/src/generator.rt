@@ -38,7 +38,7 @@ impl From<AllocError> for GenerateError {
     }
 }
 
-// Each call writes its text, or a prefix of it. `line` is the room of one line.
+// Each call writes its text, or a prefix of it. `line` is a buffer for one line.
 
 // Writes the script line by line.
 pub(crate) fn write_script<K: Sink>(
@@ -178,7 +178,7 @@ fn write_line<K: Sink>(sink: &mut K, line: &str) -> Result<(), GenerateError>
     Ok(())
 }
 
-// Each call puts one line into the room of a line.
+// Each call writes one line into `line`, in place of its text.
 
 #[tactic(auto, unfolding(crate::specs::Generator::member_text))]
 fn put_member(line: &mut String, member: u64) -> Result<(), AllocError>

@@ -7,10 +7,10 @@ use script_report::{Refusal, put_refused};
 use script_story::Ending;
 use std::alloc::{AllocError, Global};
 
-// How many octets of the input are taken at most.
+// The most octets of an input.
 pub(crate) const MOST_OCTETS: usize = 16_777_216;
 
-// How many octets a packet has at most.
+// The most octets of a packet.
 const MOST_OF_PACKET: usize = 8_800;
 
 // The result of an input: the text, and the end.
@@ -37,7 +37,7 @@ pub(crate) fn tell_inspection(alloc: Global, input: Vec<u8>) -> Result<Inspected
     }
 }
 
-// Inspects the octets, where a packet may have so many.
+// Inspects these octets, or refuses them where they are more than a packet may have.
 fn tell_octets(alloc: Global, octets: &[u8]) -> Result<Inspected, AllocError>
     ensures text { IfOk result (λ printed. printed.text.items ≡ (octets_run octets.now).text) }
     ensures ending { IfOk result (λ printed. printed.ending ≡ (octets_run octets.now).ending) }
@@ -59,7 +59,7 @@ fn tell_octets(alloc: Global, octets: &[u8]) -> Result<Inspected, AllocError>
     Ok(Inspected { text, ending })
 }
 
-// The input as its first line is refused.
+// The result of an input whose first line is refused.
 fn refuse(alloc: Global, refusal: Refusal) -> Result<Inspected, AllocError>
     ensures text { IfOk result (λ printed. printed.text.items ≡ (refused refusal).text) }
     ensures ending { IfOk result (λ printed. printed.ending ≡ (refused refusal).ending) }
@@ -73,7 +73,7 @@ fn refuse(alloc: Global, refusal: Refusal) -> Result<Inspected, AllocError>
     })
 }
 
-// What stands between spaces.
+// The input without its spaces, tabs, line feeds and carriage returns.
 fn without_spaces(mut input: Vec<u8>) -> Vec<u8>
     ensures { result.items ≡ without_spaces input.items }
 {

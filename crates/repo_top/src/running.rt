@@ -13,8 +13,8 @@ use script_lines::{LineError, LineReader, Next, Script, put_line_error};
 use std::alloc::Global;
 use std::thread::Threads;
 
-// Carries out the script of the source, one line after another, each before more is read than stands in the reader's
-// room. It leaves the last world.
+// Carries out the script of the source, one line after another, each before more is read than the reader can hold.
+// Where the script is done, `end` becomes its world.
 pub(crate) fn run_script<R: Threads + Sync, S: Source, K: Sink, N: Net + Sync, D: Draws>(
     rt: &R,
     alloc: Global,
@@ -58,7 +58,7 @@ pub(crate) fn run_script<R: Threads + Sync, S: Source, K: Sink, N: Net + Sync, D
     }
 }
 
-// Carries out the last line, if there is one, and leaves the world.
+// Carries out the last line, if there is one. Where the script is done, `end` becomes its world.
 fn run_last<R: Threads + Sync, K: Sink, N: Net + Sync, D: Draws>(
     rt: &R,
     script: Script,
@@ -91,8 +91,8 @@ fn run_last<R: Threads + Sync, K: Sink, N: Net + Sync, D: Draws>(
     }
 }
 
-// Carries out the next line, its line feed with it, and writes its report. Where the run stops at the line, what says
-// so is written instead.
+// Carries out the next line, which includes its line feed, and writes its report. Where the run stops at the line, its
+// `refused` or `foreign` line is written instead.
 fn carry_out<R: Threads + Sync, K: Sink, N: Net + Sync, D: Draws>(
     rt: &R,
     script: Script,

@@ -22,10 +22,10 @@ use std::thread::Threads;
 
 /// Does what the words ask for. `run` carries out the script of the source line by line: it holds at most 65,536 octets
 /// that it has read and not carried out, and writes the report of a line before it carries out the next. `inspect`
-/// reads hexadecimal digits to their end, and writes the lines of the elements that their octets are. `gen` with how
-/// many members and objects there are and a seed writes a script line by line.
+/// reads hexadecimal digits to their end, and writes the lines of the elements that their octets are. `gen` with a
+/// number of members, a number of objects and a seed writes a script line by line.
 ///
-/// `end` is left with the last world of a script that is done and has an event.
+/// `end` becomes the last world of a script that is done and has an event.
 pub fn run<R: Threads + Sync, S: Source, K: Sink, N: Net + Sync, D: Draws>(
     rt: &R,
     alloc: Global,
@@ -38,12 +38,12 @@ pub fn run<R: Threads + Sync, S: Source, K: Sink, N: Net + Sync, D: Draws>(
 ) -> Status
     requires { end.old ≡ None }
 
-    // `Usage` comes exactly where the words are no form, and then nothing is read or written.
+    // `Usage` is answered exactly where the words are no form, and then nothing is read or written.
     ensures usage { UsageIsOfWords (asked_of (map string_bytes words.now)) result
         (source.new ≡ source.old) (sink.new ≡ sink.old) }
 
-    // On `Done`, `Refused` and `Foreign` the status is the end of the run that the words ask for, and what was
-    // written is its text. Whatever comes, it is a prefix of that text.
+    // On `Done`, `Refused` and `Foreign` the status is the end of the run that the words ask for, and what was written
+    // is its text. Whatever the status, what was written is a prefix of that text.
     ensures script_run { ReportsRun (asked_run (env_by (D.draw draws.now) (N.passes net.now))
         (asked_of (map string_bytes words.now)) (S.left source.old)) (K.out sink.old) (K.out sink.new) result }
 
@@ -51,7 +51,7 @@ pub fn run<R: Threads + Sync, S: Source, K: Sink, N: Net + Sync, D: Draws>(
     ensures input { ReadsInput (asked_of (map string_bytes words.now)) (S.left source.old) (S.left source.new) result
         (source.new ≡ source.old) (sink.new ≡ sink.old) }
 
-    // On `Done` the world that is left is the run's, with its mirrors, and there is none in any other case.
+    // On `Done`, `end` is the world of the run, with its mirrors, and there is none in any other case.
     ensures world { LeavesLast (asked_of (map string_bytes words.now))
         (asked_run (env_by (D.draw draws.now) (N.passes net.now)) (asked_of (map string_bytes words.now))
         (S.left source.old)) result end.new }
@@ -75,7 +75,7 @@ pub fn run<R: Threads + Sync, S: Source, K: Sink, N: Net + Sync, D: Draws>(
     }
 }
 
-// Writes the script of so many members and objects.
+// Writes the script with these numbers of members and objects, and this seed.
 fn generate<K: Sink>(measures: GeneratorInputs, alloc: Global, sink: &mut K) -> Status
     requires { 0 < measures.members }
     ensures ends { (result ≡ Status.Done) ⊎ ((result ≡ Status.NoMemory) ⊎ (result ≡ Status.WriteFault)) }
@@ -112,7 +112,7 @@ fn inspect<S: Source, K: Sink>(alloc: Global, source: &mut S, sink: &mut K) -> S
         → IfSome (option_map inspect_run (S.left source.old))
         (λ script_run. (result ≡ status_of script_run.ending) ⊎ (result ≡ Status.NoMemory)) }
 {
-    // One octet more than are taken, so that a longer input shows.
+    // One octet more than an input may have, so that a longer input is recognised.
     let input = match read_up_to(alloc, source, MOST_OCTETS + 1) {
         Ok(input) => input,
         Err(ReadFault::Failed) => return Status::ReadFault,
@@ -121,7 +121,7 @@ fn inspect<S: Source, K: Sink>(alloc: Global, source: &mut S, sink: &mut K) -> S
     write_inspection(alloc, input, sink)
 }
 
-// Inspects the input, and writes the text of that.
+// Inspects the input, and writes the text of the inspection.
 fn write_inspection<K: Sink>(alloc: Global, input: Vec<u8>, sink: &mut K) -> Status
     ensures ends { (result ≡ status_of (inspect_run input.items).ending)
         ⊎ ((result ≡ Status.NoMemory) ⊎ (result ≡ Status.WriteFault)) }

@@ -7,7 +7,7 @@ use Rattle.script_lang.specs.Lines.{with_value, without_value, values_of, stated
 use Rattle.script_lang.specs.Reading.{Gives, IsReadFault, Unread, left_of, KeepsValue, ReadsWord, with_all}
 use Rattle.script_lang.specs.declared.verb.Verb.{Verb}
 
--- words as they are left
+-- the words still to be read, and whether a word before them was out of range
 abbrev pub at : Bool → List (List ℕ) → Unread
 at over words = record { over = over; words = words }
 
@@ -46,7 +46,7 @@ unfolding values_of
 took_none true kind kinds = refl
 took_none false kind kinds = refl
 
--- a word is read, and kept as it is or something in its place
+-- a call reads a word and returns its value, or a placeholder for a value out of range
 pub reads : {X : Type 0} (view : X → Value) (kind : Kind) (word : List ℕ)
     (before between after : Unread) (instead : X)
     (read result : Result X LineFault) → before ≡ at between.over

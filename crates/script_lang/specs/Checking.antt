@@ -32,7 +32,7 @@ pub record LineTotals : Type 0 where
   pub parts : ℕ
   pub settles : ℕ
 
--- The totals as a definition has them.
+-- The totals that code has, as `LineTotals`.
 abbrev pub line_totals : ScriptTotals → LineTotals
 line_totals s = record { contents = s.contents; parts = s.parts; settles = s.settles }
 
@@ -45,11 +45,11 @@ pub record Declared : Type 0 where
   pub events : Bool
   pub totals : LineTotals
 
--- What a declaration declares.
+-- The party that the declaration `d` declares.
 abbrev pub party_of : Declaration → Party
 party_of d = record { label = string_bytes d.label; node = d.node }
 
--- What declarations declare, in order.
+-- The parties that the declarations `ds` declare, in order.
 abbrev pub parties_of : List Declaration → List Party
 parties_of ds = map party_of ds
 
@@ -57,15 +57,15 @@ parties_of ds = map party_of ds
 abbrev pub party_label : Party → List ℕ
 party_label p = p.label
 
--- Its node name.
+-- The node name of a member or client.
 abbrev pub party_node : Party → List Component
 party_node p = p.node
 
--- The place of the first with this label.
+-- The place of the first of `parties` with this label.
 abbrev pub party_place : List ℕ → List Party → Option ℕ
 party_place label parties = position (λ (p : Party). bytes_eq p.label label) parties
 
--- One of them has this label.
+-- One of `parties` has this label.
 abbrev pub has_label : List ℕ → List Party → Bool
 has_label label parties = list_any (λ (p : Party). bytes_eq p.label label) parties
 
@@ -86,13 +86,13 @@ labels_in (Number n ∷ values) = labels_in values
 labels_in (Named name ∷ values) = labels_in values
 labels_in (Octets octets ∷ values) = labels_in values
 
--- Labels are members'. Of those of a client's command the first is a member's, and what is after it clients'.
+-- All are labels of clients.
 abbrev pub are_clients : Declared → List (List ℕ) → Bool
 are_clients d [] = true
 are_clients d (client ∷ []) = has_label client d.clients
 are_clients d (client ∷ other ∷ clients) = has_label client d.clients && are_clients d (other ∷ clients)
 
--- The labels of a client's command are a member's and then clients'.
+-- The first label, if there is one, is a member's, and all others are clients', as in a client's command.
 abbrev pub are_those : Declared → List (List ℕ) → Bool
 are_those d [] = true
 are_those d (m ∷ clients) = has_label m d.members && are_clients d clients
@@ -105,15 +105,16 @@ are_members d labels = list_all (λ label. has_label label d.members) labels
 abbrev pub are_mirrors : Declared → List (List ℕ) → Bool
 are_mirrors d labels = list_all (λ label. is_mirror label d.mirrors) labels
 
--- What a form is: it declares the group, a member, a client or a mirror; it is an event whose labels are members'; it
--- is an event by a client's command, with the client's label after the member's; or it is an event of a mirror.
+-- The sort of a form. A `declaration` declares the group, a member, a client or a mirror. An `event` has labels of
+-- members alone. A `command` is an event by a client's command, with the client's label after the member's. A
+-- `mirroring` is an event of a mirror.
 pub data Sort : Type 0 where
   declaration : Sort
   event : Sort
   command : Sort
   mirroring : Sort
 
--- What each form is.
+-- The sort of each form.
 abbrev pub sort_of : Verb → Sort
 sort_of Group = declaration
 sort_of Member = declaration
@@ -150,7 +151,7 @@ sort_of Mcatalogue = mirroring
 sort_of Summary = event
 sort_of Traffic = event
 
--- The label of a declaration is new, and not asked for.
+-- The labels of a line of this sort are declared. It is false of a declaration, which isn't tested by it.
 abbrev pub are_known_of : Sort → Declared → List (List ℕ) → Bool
 are_known_of declaration d labels = false
 are_known_of event d labels = are_members d labels
@@ -165,7 +166,7 @@ are_known_by verb d labels = are_known_of (sort_of verb) d labels
 abbrev pub are_known : Declared → Stated → Bool
 are_known d s = are_known_by s.verb d (labels_in s.values)
 
--- All lines but declarations are events.
+-- Lines of this sort are declarations. Lines of every other sort are events.
 abbrev pub is_declaration : Sort → Bool
 is_declaration declaration = true
 is_declaration event = false
@@ -176,15 +177,15 @@ is_declaration mirroring = false
 abbrev pub declares : Verb → Bool
 declares verb = is_declaration (sort_of verb)
 
--- How many segments of this size a content has.
+-- How many segments of `size` octets a content of `len` octets has.
 abbrev pub segments : ℕ → ℕ → ℕ
 segments len size = (len + size - 1) / size
 
--- How many index packets list so many segments: none where the record lists them itself.
+-- How many index packets list `count` segments: none where the record lists them itself.
 abbrev pub index_packets : ℕ → ℕ
 index_packets count = if nat_le count listed_limit then 0 else (count + listed_limit - 1) / listed_limit
 
--- The parts of a publication of so many segments: its record, the index packets and the segments.
+-- How many parts a publication of `count` segments has: its record, the index packets and the segments.
 abbrev pub publication_parts : ℕ → ℕ
 publication_parts count = 1 + index_packets count + count
 
@@ -244,24 +245,24 @@ with_totals a b = record {
   settles = a.settles + b.settles;
 }
 
--- A total that is reached is not passed.
+-- No total is above its limit.
 abbrev pub are_within_limits : LineTotals → Bool
 are_within_limits t =
     nat_le t.contents contents_limit && nat_le t.parts parts_limit && nat_le t.settles settles_limit
 
 -- ---- a line
 
--- What is declared after a `group` line, which there is once.
+-- What is declared after a `group` line. A second one is refused.
 abbrev pub after_group : Declared → Result Declared CheckFault
 after_group d = if d.group then Err Duplicate else Ok (record d { group = true })
 
--- One of them has its label or its node name.
+-- One of `parties` has the label or the node name of `p`.
 abbrev pub is_party_among : Party → List Party → Bool
 is_party_among p parties =
     list_any (λ (q : Party). bytes_eq q.label p.label || bytes_eq (encoding q.node) (encoding p.node))
     parties
 
--- A member, client or mirror has the label, or a member or client the node name.
+-- A member, client or mirror has the label of `p`, or a member or client has its node name.
 abbrev pub is_there : Declared → Party → Bool
 is_there d p = is_party_among p d.members || is_party_among p d.clients || is_mirror p.label d.mirrors
 
@@ -269,7 +270,7 @@ is_there d p = is_party_among p d.members || is_party_among p d.clients || is_mi
 abbrev pub is_label_there : Declared → List ℕ → Bool
 is_label_there d label = has_label label d.members || has_label label d.clients || is_mirror label d.mirrors
 
--- Whether a member or client may be declared, where so many of its kind are there.
+-- Whether the member or client `p` may be declared, if `count` of its kind are declared already.
 abbrev pub may_declare : Declared → Party → ℕ → Result (Unit {0}) CheckFault
 may_declare d p count =
     if not d.group then Err NoGroup
@@ -278,7 +279,7 @@ may_declare d p count =
     else if nat_le members_limit count then Err Limit
     else Ok tt
 
--- Whether a mirror may be declared of publishers with these labels.
+-- Whether the mirror `label` may be declared by a line that names `publishers`.
 abbrev pub may_mirror : Declared → List ℕ → List (List ℕ) → Result (Unit {0}) CheckFault
 may_mirror d label publishers =
     if not d.group then Err NoGroup
@@ -288,7 +289,7 @@ may_mirror d label publishers =
     else if nat_le mirrors_limit (length d.mirrors) then Err Limit
     else Ok tt
 
--- What is declared after a declaration that may be made.
+-- What is declared after a declaration: `after` if it may be made, else why it is refused.
 abbrev pub declared_then : Result (Unit {0}) CheckFault → Declared → Result Declared CheckFault
 declared_then (Ok x) after = Ok after
 declared_then (Err fault) after = Err fault
@@ -305,8 +306,8 @@ after_event d s =
 abbrev pub party : List ℕ → List Component → Party
 party label node = record { label = label; node = node }
 
--- No line states another declaration than these: it would have no cause, and is reported as out of memory, which no
--- line gets.
+-- What is declared after a declaration, or why it is refused. No line reaches the last case, so no line is refused with
+-- its `NoMemory`.
 abbrev pub after_declaration : Declared → Verb → List Value → Result Declared CheckFault
 after_declaration d Group values = after_group d
 after_declaration d Member (Text label ∷ Named node ∷ key ∷ []) =
@@ -320,14 +321,14 @@ after_declaration d Mirror (Text label ∷ publisher ∷ prefix ∷ []) =
     (record d { mirrors = d.mirrors ++ label ∷ [] })
 after_declaration d verb values = Err NoMemory
 
--- What is declared after a line, by what its form is.
+-- What is declared after the line `s` of this sort, with this verb and these values, or why it is refused.
 abbrev pub after_sort : Sort → Declared → Stated → Verb → List Value → Result Declared CheckFault
 after_sort declaration d s verb values = after_declaration d verb values
 after_sort event d s verb values = after_event d s
 after_sort command d s verb values = after_event d s
 after_sort mirroring d s verb values = after_event d s
 
--- The same by its first word.
+-- What is declared after the line `s`, with this verb and these values, or why it is refused.
 abbrev pub after_by : Declared → Stated → Verb → List Value → Result Declared CheckFault
 after_by d s verb values = after_sort (sort_of verb) d s verb values
 
@@ -335,7 +336,7 @@ after_by d s verb values = after_sort (sort_of verb) d s verb values
 abbrev pub after_line : Declared → Stated → Result Declared CheckFault
 after_line d s = after_by d s s.verb s.values
 
--- Before the first line.
+-- What is declared before the first line.
 abbrev pub nothing_declared : Declared
 nothing_declared = record {
   group = false;
@@ -346,8 +347,8 @@ nothing_declared = record {
   totals = nothing_added;
 }
 
--- The forms that may be refused for what is in the group before a total is tested: they name the number of a sync
--- Interest, a fetcher, or a member that may have as many watchers as it can.
+-- The forms whose lines may be refused for the state of the group before a total is tested: they name the number of a
+-- sync Interest, or a fetcher, or they set up a watcher at a member, which may have the greatest number of watchers.
 abbrev pub asks_the_group_first : Verb → Bool
 asks_the_group_first Group = false
 asks_the_group_first Member = false

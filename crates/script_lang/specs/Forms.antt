@@ -1,4 +1,4 @@
--- The forms of line: the table of their words, and the lines as values of it.
+-- The forms of line: the table of their words, and each line as its verb and the values of its words.
 use Rattle.std.specs.Prelude.{ℕ, List, [], ◌∷◌, codes, Option, Some, None, String}
 use Rattle.std.specs.String.{string_bytes}
 use Rattle.script_lang.specs.declared.line.Line.{Line}
@@ -74,7 +74,7 @@ pub record Stated : Type 0 where
 abbrev pub statement : Verb → List Value → Stated
 statement verb values = record { verb = verb; values = values }
 
--- The publisher of this label, or every one.
+-- The value of a publisher: its label, or `Anyone` for `None`.
 abbrev pub publisher_value : {Z : Type 0} → Option (String Z) → Value
 publisher_value (Some label) = Text (string_bytes label)
 publisher_value None = Anyone

@@ -1,4 +1,4 @@
--- The kinds of word of a line, and what a word is as one of a kind: its value, or why it has none.
+-- The kinds of word of a line, and the value that a word has as one of a kind, or why it has none.
 use Rattle.std.specs.Prelude.{ℕ, Bool, false, not, ◌&&◌, ◌||◌, List, [], ◌∷◌, length, Option, Some, None, Result, Ok}
 use Rattle.std.specs.Prelude.{Err, nat_le, ◌==◌, codes, if◌then◌else◌, replicate}
 use Rattle.std.specs.Char.{is_ascii_digit, is_ascii_lowercase}
@@ -30,21 +30,21 @@ pub data Value : Type 0 where
   Named : List Component → Value
   Octets : List ℕ → Value
 
--- A label is a lower-case letter and up to 15 lower-case letters or digits.
+-- An octet that a label may have after its first: a lower-case letter or a digit.
 abbrev pub is_label_octet : ℕ → Bool
 is_label_octet octet = is_ascii_lowercase octet || is_ascii_digit octet
 
--- A word is a label.
+-- A word is a label: a lower-case letter and up to 15 lower-case letters or digits.
 abbrev pub is_label : List ℕ → Bool
 is_label [] = false
 is_label (first ∷ others) =
     is_ascii_lowercase first && nat_le (length others) 15 && list_all is_label_octet others
 
--- A label, or that the word is none.
+-- The label that a word is, or `Syntax` if it is none.
 unfoldable pub label_of : List ℕ → Result (List ℕ) LineFault
 label_of word = if is_label word then Ok word else Err Syntax
 
--- A value that was read, as another value.
+-- A result with `f` applied to its value.
 abbrev pub mapped : {A B : Type 0} → (A → B) → Result A LineFault → Result B LineFault
 mapped f (Ok x) = Ok (f x)
 mapped f (Err fault) = Err fault
@@ -60,19 +60,19 @@ is_numeral (first ∷ others) =
     nat_le (length others) 17 && (not (first == 48) || length others == 0)
     && list_all is_ascii_digit (first ∷ others)
 
--- A number in its range, or that the word is none or leaves the range.
+-- The number that a word is, or `Syntax` if it is none, or `Limit` if it isn't from `least` to `most`.
 unfoldable pub numeral_of : ℕ → ℕ → List ℕ → Result ℕ LineFault
 numeral_of least most word =
     if is_numeral word
     then if nat_le least (digits_value 10 word) && nat_le (digits_value 10 word) most
     then Ok (digits_value 10 word) else Err Limit else Err Syntax
 
--- Octets, where they are so many.
+-- The octets, or `Limit` if there aren't `least` to `most` of them.
 abbrev pub octets_within : ℕ → ℕ → List ℕ → Result (List ℕ) LineFault
 octets_within least most octets =
     if nat_le least (length octets) && nat_le (length octets) most then Ok octets else Err Limit
 
--- Octets that were read from hexadecimal text, where they are so many.
+-- The octets that hexadecimal text was decoded to, or `Limit` if there aren't `least` to `most` of them.
 abbrev pub decoded_within : ℕ → ℕ → Result (List ℕ) FromHexError → Result (List ℕ) LineFault
 decoded_within least most (Ok octets) = octets_within least most octets
 decoded_within least most (Err _) = Err Syntax
@@ -81,7 +81,7 @@ decoded_within least most (Err _) = Err Syntax
 unfoldable pub hex_of : ℕ → ℕ → List ℕ → Result (List ℕ) LineFault
 hex_of least most word = decoded_within least most (decode_of word)
 
--- `N:N`, a count of octets and the octet
+-- The octets that the two parts of `N:N` stand for: the first is their count, the second the octet that is repeated.
 abbrev pub filled : ℕ → ℕ → Option (List ℕ × List ℕ) → Result (List ℕ) LineFault
 filled least most None = Err Syntax
 filled least most (Some parts) =
@@ -110,7 +110,7 @@ content_of least most word =
     (after_word (codes "fill:") word)
 
 -- A URI is the text of a name without components of type 1 or 2 (`plain_name_of_text`), whose value has
--- so many octets.
+-- `least` to `most` octets.
 abbrev pub name_within : ℕ → ℕ → Option (List Component) → Result (List Component) LineFault
 name_within least most None = Err Syntax
 name_within least most (Some name) =
@@ -123,7 +123,7 @@ uri_of least most word = name_within least most (plain_name_of_text word)
 
 -- ---- a word
 
--- What a word is as one of this kind.
+-- The value of a word as one of this kind, or why it has none.
 abbrev pub word_of : Kind → List ℕ → Result Value LineFault
 word_of LABEL word = mapped Text (label_of word)
 word_of PUBLISHER word = publisher_of word

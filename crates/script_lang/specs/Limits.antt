@@ -5,15 +5,15 @@ use Rattle.std.specs.Prelude.{ℕ}
 abbrev pub script_octets : ℕ
 script_octets = 16777216
 
--- Lines of a script, those that say nothing among them.
+-- Lines of a script. Blank lines and comments count too.
 abbrev pub script_lines : ℕ
 script_lines = 100000
 
--- Octets of a line, its carriage return among them, its line feed not.
+-- Octets of a line, with its carriage return and without its line feed.
 abbrev pub line_octets : ℕ
 line_octets = 32768
 
--- Members of a group, and clients.
+-- Members of a group. Its clients have the same limit.
 abbrev pub members_limit : ℕ
 members_limit = 16
 
@@ -29,8 +29,8 @@ segments_limit = 20000
 abbrev pub listed_limit : ℕ
 listed_limit = 200
 
--- The number of the last part of a publication of so many segments: the record is part 0, and the index packets stand
--- in front of the segments.
+-- The number of the last part of a publication of `segments_limit` segments: the record is part 0, and the index
+-- packets stand in front of the segments.
 abbrev pub last_part : ℕ
 last_part = 20100
 
@@ -42,8 +42,8 @@ blocks_limit = 200
 abbrev pub contents_limit : ℕ
 contents_limit = 67108864
 
--- Parts: one, the index packets and the segments for each `publish` line, one for each `withdraw`, `insert`, `order`
--- and `block` line.
+-- Parts: for each `publish` line the record, the index packets and the segments, and one for each `withdraw`, `insert`,
+-- `order` and `block` line.
 abbrev pub parts_limit : ℕ
 parts_limit = 100000
 

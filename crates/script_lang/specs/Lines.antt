@@ -1,5 +1,5 @@
--- What octets are as a line: its verb and the values of its words; nothing; or why they are no line. A line that is
--- too long is reported first, then what isn't in the grammar, then what leaves a range.
+-- The line that octets are: its verb and the values of its words, or nothing for a blank line or a comment, or why they
+-- are no line. A line that is too long is reported first, then a syntax error, then what is out of range.
 use Rattle.std.specs.Prelude.{ℕ, ◌-◌, ◌*◌, Bool, true, false, not, ◌&&◌, List, [], ◌∷◌, length, take, map, Option, Some}
 use Rattle.std.specs.Prelude.{None}
 use Rattle.std.specs.Prelude.{Result, Ok, Err, nat_le, nat_lt, ◌==◌, if◌then◌else◌, filter, slice_index}
@@ -19,17 +19,17 @@ use Rattle.script_lang.specs.Forms.{Stated, form, statement}
 
 -- ---- the words by their kinds
 
--- A value in front of what is read of the words after it.
+-- `value` in front of the values of the words after it, or the fault of those words.
 abbrev pub with_value : Value → Result (List Value) LineFault → Result (List Value) LineFault
 with_value value (Ok values) = Ok (value ∷ values)
 with_value value (Err fault) = Err fault
 
--- A word left its range: the line is no line, and Syntax after it is reported first.
+-- The fault of a line from a word out of range on: the fault of the words after it, or `Limit` if they have none.
 abbrev pub without_value : Result (List Value) LineFault → Result (List Value) LineFault
 without_value (Ok values) = Err Limit
 without_value (Err fault) = Err fault
 
--- A word, and then what is read of the words after it.
+-- The values of a word and of the words after it, or their fault. A word's `Limit` yields to a fault after it.
 abbrev pub word_then : Result Value LineFault → Result (List Value) LineFault
     → Result (List Value) LineFault
 word_then (Ok value) others = with_value value others
@@ -46,8 +46,8 @@ values_of (kind ∷ kinds) (word ∷ words) = word_then (word_of kind word) (val
 
 -- ---- the line
 
--- What is asked of the values together: a publication has at most 20,000 segments, an insertion at most
--- 200 blocks, and of the others nothing is asked.
+-- The values are within the limits across words: a publication has at most 20,000 segments, and an insertion has 1 to
+-- 200 blocks. Other lines have no such limit.
 abbrev pub are_within : Verb → List Value → Bool
 are_within Group values = true
 are_within Member values = true
@@ -88,13 +88,13 @@ are_within Mcatalogue values = true
 are_within Summary values = true
 are_within Traffic values = true
 
--- A line with this first word, where its words have values that are within the limits across words.
+-- The line with this verb and these values, or `Limit` if they aren't within the limits across words (`are_within`).
 abbrev pub stated_of : Verb → Result (List Value) LineFault → Result Stated LineFault
 stated_of verb (Ok values) =
     if are_within verb values then Ok (statement verb values) else Err Limit
 stated_of verb (Err fault) = Err fault
 
--- The verb that a word is.
+-- The verb of the first row whose word is `word`.
 unfoldable pub verb_named : List (List ℕ × Verb) → List ℕ → Option Verb
 verb_named [] word = None
 verb_named (first ∷ others) word = if bytes_eq first.0 word then Some first.1 else verb_named others word
@@ -110,11 +110,11 @@ verbs =
 abbrev pub first_words : List (List ℕ × Verb)
 first_words = map (λ verb. ((form verb).word, verb)) verbs
 
--- The form of a first word.
+-- The verb that a word is, if it is one.
 abbrev pub verb_of_word : List ℕ → Option Verb
 verb_of_word word = verb_named first_words word
 
--- The line of these words after a first word.
+-- The line of a verb and these words after it, or its fault. Without a verb it is `Syntax`.
 abbrev pub line_by : List (List ℕ) → Option Verb → Result Stated LineFault
 line_by words None = Err Syntax
 line_by words (Some verb) = stated_of verb (values_of (form verb).kinds words)
@@ -129,7 +129,7 @@ abbrev pub spaced_words : List ℕ → List (List ℕ)
 spaced_words octets =
     filter (λ word. not (length word == 0)) (slice_split (λ octet. octet == 32) octets)
 
--- Spaces alone, or a comment.
+-- The first octet of a line that isn't a space is `#`, or there is none.
 abbrev pub is_mark : Option ℕ → Bool
 is_mark None = true
 is_mark (Some octet) = octet == 35
@@ -142,19 +142,19 @@ says_nothing octets = is_mark (find (λ octet. not (octet == 32)) octets)
 abbrev pub is_printable : ℕ → Bool
 is_printable octet = nat_le 32 octet && nat_le octet 126
 
--- A line that says something.
+-- The result for a line that is neither blank nor a comment.
 abbrev pub mapped_line : Result Stated LineFault → Result (Option Stated) LineFault
 mapped_line (Ok s) = Ok (Some s)
 mapped_line (Err fault) = Err fault
 
--- The line in the octets without their end.
+-- The line that octets without a line's end are, `None` for a blank line or a comment, or the fault.
 abbrev pub line_in : List ℕ → Result (Option Stated) LineFault
 line_in octets =
     if says_nothing octets then Ok None
     else if list_all is_printable octets then mapped_line (line_in_words (spaced_words octets))
     else Err Syntax
 
--- A line is too long beyond 32,768 octets, its carriage return among them.
+-- The line that `body` is, or `Limit` if `octets`, the line without its line feed, are more than 32,768.
 abbrev pub line_within : List ℕ → List ℕ → Result (Option Stated) LineFault
 line_within octets body = if nat_le (length octets) line_octets then line_in body else Err Limit
 

@@ -1,5 +1,5 @@
--- Which octets are a line: the texts of its values, the spaces between them and its end. And of its texts, the one that
--- is printed.
+-- Which octets are a line: the texts of its values, the spaces between them and its end. And which of the texts of a
+-- line is printed.
 use Rattle.std.specs.Prelude.{◌≡◌, ℕ, ◌+◌, ◌^◌, ◌<◌, ◌≤◌, ◌⊎◌, Bool, true, false, ◌&&◌, nat_le, List, [], ◌∷◌, ◌++◌}
 use Rattle.std.specs.Prelude.{length, codes, replicate}
 use Rattle.std.specs.Fmt.{decimal}
@@ -17,7 +17,8 @@ use Rattle.script_lang.specs.Lines.{are_within}
 
 -- ---- values
 
--- The texts of a content: its octets, two digits for each of them, or how often which octet stands in it.
+-- The texts of a content: `text:` and its octets, `hex:` and two digits for each octet, or `fill:` with a count and the
+-- octet that is repeated.
 pub data IsContentText (octets text : List ℕ) : Type 0 where
   plain : text ≡ codes "text:" ++ octets → IsContentText octets text
   digits : (tail : List ℕ) → text ≡ codes "hex:" ++ tail → IsDigits octets tail → IsContentText octets text
@@ -62,11 +63,11 @@ AreOf kinds values = ⊥
 
 -- ---- lines
 
--- A word has one or more printable octets other than a space.
+-- A printable octet other than a space.
 abbrev pub is_graphic : ℕ → Bool
 is_graphic octet = nat_le 33 octet && nat_le octet 126
 
--- A word of a line.
+-- A word of a line has one or more printable octets other than a space.
 pub record IsWord (word : List ℕ) : Type 0 where
   pub some : 0 < length word
   pub graphic : list_all is_graphic word ≡ true
@@ -97,7 +98,7 @@ pub record IsLineText (s : Stated) (octets : List ℕ) : Type 0 where
 
 -- ---- the text that is printed
 
--- A value of another kind than the word's has no text.
+-- The text that is printed of a value as a word of this kind. It is empty for a value of another kind.
 abbrev pub word_text : Kind → Value → List ℕ
 word_text LABEL (Text text) = text
 word_text PUBLISHER (Text text) = text
@@ -125,7 +126,7 @@ IsPlainValue (Number n) = n < 10 ^ 18
 IsPlainValue (Named name) = IsName name
 IsPlainValue (Octets octets) = IsBytes octets
 
--- All can be printed.
+-- All of these values can be printed.
 abbrev pub ArePlainValues : List Value → Type 0
 ArePlainValues [] = Unit {0}
 ArePlainValues (value ∷ values) = IsPlainValue value × ArePlainValues values

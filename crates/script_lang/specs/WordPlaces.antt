@@ -11,7 +11,7 @@ use Rattle.script_lang.specs.declared.verb.Verb.TheVariants.{Feed, Insert, Block
 use Rattle.script_lang.specs.declared.verb.Verb.TheVariants.{Mfetch, Mcatalogue, Summary, Traffic}
 use Rattle.script_lang.specs.Kinds.{Kind, LABEL, PUBLISHER, N, URI, HEX, CONTENT}
 
--- A kind of word, with its range.
+-- A `WordKind` of code as a `Kind`, with the same range.
 abbrev pub kind_of : WordKind → Kind
 kind_of kind.Label = LABEL
 kind_of kind.Publisher = PUBLISHER
@@ -20,11 +20,11 @@ kind_of (kind.Uri least most) = URI least most
 kind_of (kind.Hex most) = HEX most
 kind_of (kind.Content least most) = CONTENT least most
 
--- The kind of a word of a form.
+-- The kind of the word at a place of a form.
 abbrev pub place_kind : Place → Kind
 place_kind place = kind_of place.kind
 
--- Its name.
+-- The name of the word at a place of a form.
 abbrev pub place_name : Place → List ℕ
 place_name place = place.name.now
 

@@ -12,12 +12,12 @@ use std::marker::Model;
 
 // The words of a line that are still to be read.
 //
-// A word that leaves its range stops nothing, since the words after it may be no words at all,
-// which is reported first: something stands in for its value, and `end` says that it left its range.
+// A value out of range doesn't stop reading: a later syntax error takes precedence. A placeholder is used, and `end`
+// reports the range error.
 #[derive(Drop)]
 pub(crate) struct Cursor<'a> {
     rest: &'a [&'a str],
-    // Whether a word that was read left its range.
+    // Whether a word that was read was out of range.
     over: bool,
 }
 
@@ -54,7 +54,7 @@ impl<'a> Cursor<'a> {
         Ok(word)
     }
 
-    // What is kept of a word that was read.
+    // The value that was read, or its fault. For a value out of range it is `instead`, and `over` becomes true.
     fn kept<T: Drop>(&mut self, read: Result<T, LineFault>, instead: T) -> Result<T, LineFault>
         ensures { KeepsValue instead read self.old self.new result }
     {
@@ -99,7 +99,7 @@ impl<'a> Cursor<'a> {
         self.kept(small_in(least, most, word), 0)
     }
 
-    // The next word as hexadecimal text of 1 to so many octets.
+    // The next word as hexadecimal text of 1 to `most` octets.
     pub(crate) fn hex(&mut self, alloc: Global, most: u64) -> Result<Vec<u8>, LineFault>
         ensures { ReadsWord (λ value. Octets value.items) (HEX most) self.old self.new result }
     {
@@ -107,7 +107,7 @@ impl<'a> Cursor<'a> {
         self.kept(hex_in(alloc, 1, most, word), Vec::new(alloc))
     }
 
-    // The next word as the text of a name with so many octets of value.
+    // The next word as the text of a name whose value has `least` to `most` octets.
     pub(crate) fn name(&mut self, alloc: Global, least: u64, most: u64) -> Result<Name, LineFault>
         requires { most ≤ 1000 }
         ensures { ReadsWord (λ value. Named value) (URI least most) self.old self.new result }
@@ -116,7 +116,7 @@ impl<'a> Cursor<'a> {
         self.kept(name_in(alloc, least, most, word), Name::new(alloc))
     }
 
-    // The next word as a content of so many octets.
+    // The next word as a content of `least` to `most` octets.
     pub(crate) fn content(
         &mut self,
         alloc: Global,
@@ -129,7 +129,7 @@ impl<'a> Cursor<'a> {
         self.kept(content_in(alloc, least, most, word), Vec::new(alloc))
     }
 
-    // After the last word: there is no other, and none left its range.
+    // Ends reading: `Syntax` if a word is still to be read, else `Limit` if a word was out of range.
     #[tactic(auto, unfolding(crate::specs::Lines::values_of))]
     pub(crate) fn end(&self) -> Result<(), LineFault>
         ensures ok { IfOk result (λ _. left_of [] self.now ≡ Ok []) }

@@ -24,21 +24,21 @@ impl Declaration {
     }
 }
 
-// The place of the one with this label.
+// The place of the first of `parties` with this label.
 pub(crate) fn place_of(label: &str, parties: &[Declaration]) -> Option<usize>
     ensures { result ≡ party_place label.now (parties_of parties.now) }
 {
     parties.iter().position(|one| one.label.as_str() == label)
 }
 
-// Whether the label is one of these.
+// Whether one of `parties` has this label.
 pub(crate) fn has_label(label: &str, parties: &[Declaration]) -> bool
     ensures { result ≡ has_label label.now (parties_of parties.now) }
 {
     parties.iter().any(|one| one.label.as_str() == label)
 }
 
-// Whether the label or the node name is one of these.
+// Whether one of `parties` has this label or this node name.
 pub(crate) fn is_among(label: &str, node: &Name, parties: &[Declaration]) -> bool
     ensures { result ≡ is_party_among (party label.now node.now) (parties_of parties.now) }
 {

@@ -31,7 +31,7 @@ pub(crate) fn line_of(alloc: Global, verb: Verb, words: Cursor<'_>) -> Result<Li
     }
 }
 
-// Reads as many words as the form has, one after another.
+// Reads the words of the form of `verb`, one after another.
 fn read_form(alloc: Global, verb: Verb, words: &mut Cursor<'_>) -> Result<Line, LineFault>
     ensures { ReadsForm verb words.old words.new result }
 {

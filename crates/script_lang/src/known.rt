@@ -7,8 +7,7 @@ use crate::declaration::{Declaration, has_label};
 use crate::line::Line;
 use crate::mirror::is_mirror;
 
-// Whether the labels of an event line are of members, of a client where a client stands, and of a mirror where a mirror
-// stands.
+// Whether each label of an event line is declared: as a member, a client or a mirror, as the form of the line has it.
 pub(crate) fn are_known(
     members: &[Declaration],
     clients: &[Declaration],
@@ -64,7 +63,7 @@ pub(crate) fn are_known(
     }
 }
 
-// Whether a publisher is that of a member's label, or every one.
+// Whether a publisher is the label of a member, or `None`, which stands for every publisher.
 pub(crate) fn is_publisher(p: &Option<String>, members: &[Declaration]) -> bool
     ensures { (d : Declared)
         → d.members ≡ parties_of members.now

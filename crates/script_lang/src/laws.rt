@@ -33,7 +33,7 @@ pub fn limits_are_these()
     ensures settles { SETTLES_LIMIT ≡ settles_limit }
 {}
 
-/// A part's number on a line is at most that of the last part of the largest publication.
+/// `last_part` is the number of the last part of a publication of `segments_limit` segments.
 pub fn last_part_is_of_the_largest_publication()
     ensures { publication_parts segments_limit ≡ 1 + last_part }
 {}
@@ -44,8 +44,8 @@ pub fn words_are_their_texts()
         → (word_of kind word ≡ Ok value) ↔ (IsOfKind kind value × IsWordText kind value word) }
 {}
 
-/// Octets are read as a line just where they are a text of it: one has its values, apart from spaces, the
-/// case of digits, and the forms that a name or a content may be written in.
+/// Octets are read as a line just where they are a text of it. The texts of a line differ at most in spaces, the line's
+/// end, the case of digits, and the forms in which a name or a content may be written.
 pub fn lines_are_their_texts()
     ensures { (s : Stated) (octets : List ℕ) → (line_of octets ≡ Ok (Some s)) ↔ IsLineText s octets }
 {}
@@ -57,23 +57,23 @@ pub fn printed_lines_are_read()
         → line_of (printed_line s) ≡ Ok (Some s) }
 {}
 
-/// The refusal of a line follows from it and the lines before it, and is never out of memory.
+/// A line is refused for its octets or for the lines before it, never because memory ran out.
 pub fn refusals_are_of_the_lines()
     ensures read { (octets : List ℕ) → IfErr (line_of octets) (λ f. f ≢ fault.NoMemory) }
     ensures checked { (d : Declared) (s : Stated) → AreShaped (form s.verb).kinds s.values
         → IfErr (after_line d s) (λ r. r ≢ refusal.NoMemory) }
 {}
 
-/// What a line states has the values of its form, so that what definitions say of other values is said of no line.
+/// The values of a line are of the kinds of its form. So cases of definitions for other values concern no line.
 pub fn lines_state_their_forms()
     ensures lines { (line : Line) → AreShaped (form (stated line).verb).kinds (stated line).values }
     ensures octets { (octets : List ℕ) (s : Stated) → line_of octets ≡ Ok (Some s)
         → AreShaped (form s.verb).kinds s.values }
 {}
 
-/// A line that names a packet's number or a fetcher, or sets up a watcher, passes no total. So it is all the same
-/// whether a total is tested before the group is asked for the packet, the fetcher or the number of watchers, or after
-/// that.
+/// A line that names a packet's number or a fetcher, or sets up a watcher, exceeds no total if none was exceeded
+/// before. So totals may be tested before the group's packets, fetchers and watchers or after them, with the
+/// same result.
 pub fn what_asks_the_group_first_adds_nothing()
     ensures { (d : Declared) (s : Stated) → are_within_limits d.totals ≡ true
         → asks_the_group_first s.verb ≡ true → after_line d s ≢ Err TooLarge }
@@ -96,7 +96,7 @@ pub fn worked_lines()
     ensures comment { line_of (codes " # g") ≡ Ok None }
 {}
 
-/// Worked lines that are refused, as the definition computes what refuses them.
+/// Worked lines that are refused, with the fault that the definition computes.
 pub fn worked_refusals()
     ensures over { line_of (codes "claim bob 17") ≡ Err Limit }
     ensures syntax_first { line_of (codes "answer bob 17 Bob") ≡ Err Syntax }

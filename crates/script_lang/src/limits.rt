@@ -1,10 +1,10 @@
 /// How many octets a script may have.
 pub const SCRIPT_LIMIT: usize = 16_777_216;
 
-/// How many lines a script may have, those that say nothing among them.
+/// How many lines a script may have. Blank lines and comments count too.
 pub const LINES_LIMIT: u32 = 100_000;
 
-/// How many octets a line may have, its carriage return among them, its line feed not.
+/// How many octets a line may have, with its carriage return and without its line feed.
 pub const LINE_LIMIT: usize = 32_768;
 
 /// How many members there may be, and how many clients.
@@ -16,15 +16,16 @@ pub const MIRRORS_LIMIT: usize = 4;
 /// How many octets the contents of all `publish` and `block` lines may have together.
 pub const CONTENTS_LIMIT: u64 = 67_108_864;
 
-/// How many parts may be counted over a script: one, its index packets and its segments for each `publish`
-/// line, one for each `withdraw`, `insert`, `order` and `block` line.
+/// How many parts may be counted over a script: for each `publish` line the record, the index packets and the segments,
+/// and one for each `withdraw`, `insert`, `order` and `block` line.
 pub const PARTS_LIMIT: u64 = 100_000;
 
 /// How many `settle` lines a script may have.
 pub const SETTLES_LIMIT: u64 = 1_000;
 
-// The ranges of words, in octets: the value of a node's or the group's name, of an object's name, a key,
-// octets that are given, the content of a segment, of a block and of a publication.
+// The greatest numbers of octets: in the value of a node's or the group's name, in the value of an object's name, in a
+// key, in the packet on a `hear`, `order`, `ask` or `feed` line, and in the content of a segment, of a block and of a
+// publication.
 pub(crate) const NODE_NAME: u64 = 200;
 
 pub(crate) const OBJECT_NAME: u64 = 400;
@@ -64,5 +65,5 @@ pub(crate) const NUMBERS: u32 = 65_535;
 
 pub(crate) const LAST_PART: u32 = 20_100;
 
-// The greatest number that a word is.
+// The greatest number that a word can be: one of 18 digits.
 pub(crate) const ANY: u64 = 999_999_999_999_999_999;

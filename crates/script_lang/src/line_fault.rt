@@ -6,7 +6,7 @@ use thiserror::Error;
 pub enum LineFault {
     #[error("the line is not in the grammar")]
     Syntax,
-    /// The line, a name, a number or a content leaves its range.
+    /// The line is too long, a value is out of its range, or the values are out of range together.
     #[error("the line leaves a range")]
     Limit,
     #[error("out of memory")]

@@ -9,7 +9,7 @@ pub(crate) fn place_of_mirror(label: &str, mirrors: &[String]) -> Option<usize>
     mirrors.iter().position(|mirror| mirror.as_str() == label)
 }
 
-// Whether the label is that of a mirror.
+// Whether a mirror has this label.
 pub(crate) fn is_mirror(label: &str, mirrors: &[String]) -> bool
     ensures { result ≡ is_mirror label.now (map string_bytes mirrors.now) }
 {

@@ -8,7 +8,7 @@ use crate::limits::{
 };
 use crate::verb::Verb;
 
-/// A kind of word, with its range: of a number, or of the octets of a name's value, of hexadecimal text, of a content.
+/// A kind of word, with the range of a number, or of how many octets a name's value, hexadecimal text or a content has.
 #[derive(Clone, Copy)]
 pub enum WordKind {
     Label,

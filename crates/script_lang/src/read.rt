@@ -26,7 +26,7 @@ pub fn read_line(alloc: Global, octets: &[u8]) -> Result<Option<Line>, LineFault
     }
 }
 
-// What is left without a carriage return at the end.
+// The line without a carriage return at its end.
 pub(crate) fn without_return(line: &[u8]) -> &[u8]
     ensures { result.now ≡ without_return line.now }
 {
@@ -63,7 +63,7 @@ fn read_body(alloc: Global, body: &[u8]) -> Result<Option<Line>, LineFault>
     Ok(Some(line))
 }
 
-// Spaces alone, or a comment.
+// Whether a line is empty, spaces alone, or a comment.
 fn says_nothing(octets: &[u8]) -> bool
     ensures { result ≡ says_nothing octets.now }
 {

@@ -25,7 +25,7 @@ impl ScriptTotals {
         }
     }
 
-    // What a line adds.
+    // What a line adds to the totals.
     pub(crate) fn of_line(line: &Line) -> ScriptTotals
         ensures adds { line_totals result ≡ adds (stated line.now).verb (stated line.now).values }
         ensures contents { result.contents < 2 ^ 63 }
@@ -55,7 +55,7 @@ impl ScriptTotals {
         }
     }
 
-    // These and those of one more line, where no limit is passed.
+    // The sums of these totals and `added`, or `None` if a sum is above its limit.
     pub(crate) fn with(self, added: ScriptTotals) -> Option<ScriptTotals>
         requires within { are_within_limits (line_totals self) ≡ true }
         requires contents { added.contents < 2 ^ 63 }
@@ -88,7 +88,7 @@ impl ScriptTotals {
     }
 }
 
-// How many segments of this size a content has.
+// How many segments of `size` octets a content of `len` octets has.
 fn segments(len: u64, size: u32) -> u64
     requires { len < 2 ^ 63 }
     ensures count { result ≡ segments len size }
@@ -101,7 +101,7 @@ fn segments(len: u64, size: u32) -> u64
     (len + size - 1) / size
 }
 
-// The parts of a publication of so many segments: its record, the index packets and the segments.
+// How many parts a publication of `count` segments has: its record, the index packets and the segments.
 fn publication_parts(count: u64) -> u64
     requires { count < 2 ^ 63 }
     ensures count { result ≡ publication_parts count }
@@ -110,7 +110,7 @@ fn publication_parts(count: u64) -> u64
     1 + index_packets(count) + count
 }
 
-// How many index packets list so many segments: none where the record lists them itself.
+// How many index packets list `count` segments: none where the record lists them itself.
 fn index_packets(count: u64) -> u64
     ensures { result ≡ index_packets count }
 {

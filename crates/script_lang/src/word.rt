@@ -40,7 +40,7 @@ pub(crate) fn label_in(alloc: Global, word: &str) -> Result<String, LineFault>
     Ok(String::from_str(alloc, word)?)
 }
 
-// The publisher that a word names: the one of a label, or none, which stands for every one.
+// The publisher that a word names: a label, or `None` for `*`, which stands for every publisher.
 #[tactic(auto, unfolding(crate::specs::Kinds::publisher_of))]
 pub(crate) fn publisher_in(alloc: Global, word: &str) -> Result<Option<String>, LineFault>
     ensures { Gives publisher_value result (word_of PUBLISHER word.now) }
@@ -83,7 +83,7 @@ pub(crate) fn number_in(least: u64, most: u64, word: &str) -> Result<u64, LineFa
     }
 }
 
-// The same of a number below 2 ^ 32.
+// The number that a word is, within this range, which is below 2 ^ 32.
 pub(crate) fn small_in(least: u32, most: u32, word: &str) -> Result<u32, LineFault>
     ensures { Gives (λ number. Number number) result (word_of (N least most) word.now) }
 {
@@ -96,7 +96,7 @@ pub(crate) fn is_within(least: u64, most: u64, len: usize) -> bool
     (least..=most).contains(&(len as u64))
 }
 
-// Octets, where they are so many.
+// The octets, or `Limit` if there aren't `least` to `most` of them.
 fn within(least: u64, most: u64, octets: Vec<u8>) -> Result<Vec<u8>, LineFault>
     ensures { Gives (λ octets. octets.items) result (octets_within least most octets.items) }
 {
@@ -119,21 +119,21 @@ pub(crate) fn hex_in(alloc: Global, least: u64, most: u64, word: &str) -> Result
     }
 }
 
-// What stands after a prefix, where the text has it.
+// The text after `prefix`, if `text` begins with it.
 fn after<'a>(prefix: &str, text: &'a str) -> Option<&'a str>
     ensures { option_copied result ≡ after_word prefix.now text.now }
 {
     text.strip_prefix(prefix)
 }
 
-// What stands before the first colon and after it, where there is one.
+// The text before the first colon and the text after it, if there is a colon.
 fn cut_at_colon(text: &str) -> Option<(&str, &str)>
     ensures { option_map (λ parts. (parts.0.now, parts.1.now)) result ≡ cut_at 58 text.now }
 {
     text.split_once(':')
 }
 
-// The octets that `N:N` stands for: so many times the second.
+// The octets that `N:N` stands for: the first number is their count, the second the octet that is repeated.
 #[tactic(auto, unfolding(crate::specs::Kinds::filled_of, crate::specs::Kinds::numeral_of))]
 fn filled_in(alloc: Global, least: u64, most: u64, counts: &str) -> Result<Vec<u8>, LineFault>
     ensures { Gives (λ octets. octets.items) result (filled_of least most counts.now) }
@@ -149,7 +149,7 @@ fn filled_in(alloc: Global, least: u64, most: u64, counts: &str) -> Result<Vec<u
     Ok(vec![in alloc; octet as u8; size as usize]?)
 }
 
-// The octets of a text, where they are so many.
+// The octets of a text, or `Limit` if there aren't `least` to `most` of them.
 fn text_in(alloc: Global, least: u64, most: u64, text: &str) -> Result<Vec<u8>, LineFault>
     ensures { Gives (λ octets. octets.items) result (octets_within least most text.now) }
 {
@@ -180,7 +180,7 @@ pub(crate) fn content_in(
     }
 }
 
-// The name whose URI a word is, of so many octets of value.
+// The name whose URI a word is, or `Limit` if its value doesn't have `least` to `most` octets.
 #[tactic(auto, unfolding(crate::specs::Kinds::uri_of))]
 pub(crate) fn name_in(alloc: Global, least: u64, most: u64, word: &str) -> Result<Name, LineFault>
     requires { most ≤ 1000 }
@@ -192,6 +192,6 @@ pub(crate) fn name_in(alloc: Global, least: u64, most: u64, word: &str) -> Resul
     if !is_within(least, most, len) {
         return Err(LineFault::Limit);
     }
-    // The text was read before, so only memory can be wanting.
+    // `plain_uri_len` accepted the text, so nothing can fail here but memory.
     Ok(Name::from_uri(alloc, word).map_err(NameFault::only_memory)?)
 }

@@ -29,7 +29,7 @@ pub struct Words {
     sums: ScriptTotals,
 }
 
-// It is seen as what is declared.
+// The view of `Words` is what the lines have declared.
 impl Model for Words {
     ghost use Rattle.std.specs.Prelude.{◌≡◌, ◌≤◌, length, map, true};
     ghost use Rattle.std.specs.String.{string_bytes};
@@ -99,7 +99,7 @@ impl Words {
         }
     }
 
-    // Whether a member or client may be declared, where so many of its kind are there.
+    // Whether a member or client may be declared, if `count` of its kind are declared already.
     fn may_declare(&self, label: &str, node: &Name, count: usize) -> Result<(), CheckFault>
         ensures ok { OnOk result (may_declare self.now (party label.now node.now) count ≡ Ok tt) }
         ensures err { IfErr result (λ fault. may_declare self.now (party label.now node.now) count ≡ Err fault) }

@@ -20,23 +20,23 @@ use std::alloc::{AllocError, Global};
 /// Places count the words after the verb, from 0.
 #[derive(Clone, Copy)]
 pub enum Wrong {
-    /// It is too long.
+    /// The line is too long.
     Length,
-    /// An octet is not printable.
+    /// An octet of the line is not printable.
     Octet,
-    /// Its first word is no verb.
+    /// The first word of the line is no verb.
     FirstWord,
     /// The word at this place is refused as one of its kind.
     Word { verb: Verb, place: usize },
     /// There is no word at this place.
     Missing { verb: Verb, place: usize },
-    /// So many words are too many.
+    /// The line has `count` words more than its form.
     Surplus { verb: Verb, count: usize },
-    /// Each word is one of its kind, and together they leave a range.
+    /// Each word is one of its kind, but together their values are out of range.
     Together { verb: Verb },
 }
 
-/// Where the line that octets are is wrong, which `read_line` refuses by this fault.
+/// Where the line of `octets` is wrong, if `read_line` refuses it with this fault.
 pub fn find_wrong(alloc: Global, octets: &[u8], fault: LineFault) -> Result<Wrong, AllocError>
     ensures { IfOk result (λ wrong. wrong ≡ wrong_of fault octets.now) }
 {
@@ -115,7 +115,7 @@ fn find_among(
     Ok(beyond(left, verb))
 }
 
-// Where no word at a place is wrong.
+// Where a line is wrong if no word at a place is: in the surplus `words`, or in all of its words together.
 #[tactic(auto, unfolding(crate::specs::WrongWords::wrong_from))]
 fn beyond(words: &[&str], verb: Verb) -> Wrong
     ensures { (fault : LineFault) (place : ℕ)
@@ -148,7 +148,7 @@ fn is_refused(
     }
 }
 
-// A word as one of this kind, without its value.
+// Reads a word as one of this kind, and drops the value.
 #[tactic(auto, unfolding(crate::specs::Kinds::uri_of))]
 fn evaluated(alloc: Global, word: &str, kind: WordKind) -> Result<(), LineFault>
     ensures { Gives (λ x. x) result (mapped (λ _. tt) (word_of (kind_of kind) word.now)) }

@@ -1,4 +1,4 @@
--- What lines come to, case by case.
+-- The verdicts on lines, case by case.
 use Rattle.std.proofs.Common.{◌≡◌, ◌∙◌, ℕ, List, [], ◌∷◌, ◌++◌, length, map}
 use Rattle.std.proofs.Common.{Option}
 use Rattle.std.proofs.Common.{Some, None, Ok, Err, ◌⊎◌, inl, inr, refl, sym, ap, subst}

@@ -1,4 +1,4 @@
--- What lines of mirrors come to, as the run keeps it.
+-- What lines of mirrors do to the state that is kept.
 use Rattle.std.proofs.Common.{◌≡◌, ◌∙◌, ℕ, ◌+◌, true, List, [], ◌∷◌, ◌++◌, length, map, Option, Some}
 use Rattle.std.proofs.Common.{None, unwrap_or, length-append, sym, ap, subst, arith, refl}
 use Rattle.ndn_name.specs.Names.{Component}
@@ -36,7 +36,7 @@ use Rattle.script_lines.proofs.RunStateLemmas.{Says, at_event, no_world}
 
 -- ---- a declaration
 
--- What a mirror asks for is kept in addition.
+-- A mirror's pattern is added to those that are kept.
 pub record DeclaresMirror (env : RunEnvironment) (p : RunState) (s : Stated) (publisher : Value)
     (prefix : List Component)
     : Type 0 where
@@ -197,7 +197,7 @@ heard_if_stops None w s d k i label error.Foreign h = absurd h
 heard_if_stops (Some why) w s d k i label (error.Refused r) h = h
 heard_if_stops (Some why) w s d k i label error.Foreign h = h
 
--- In the world that is found it is refused as in the one that is kept.
+-- In the world that is found a sync Interest for a mirror is refused as in the one that is kept.
 pub heard_stops : (draw : ℕ → ℕ → ℕ) (phase found : Phase) (ws : List (List Watching)) (d : Declared) (w : World)
     (k i : ℕ) (label : List ℕ) (error : LineError) → found ≡ phase
     → w ≡ unwrap_or (world_in found) (initial_world (drawing draw) (length (phase_keys found).members.names))

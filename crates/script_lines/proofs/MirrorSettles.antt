@@ -32,7 +32,7 @@ use Rattle.script_story.specs.Mirrors.{is_gained, mirror_as, mirror_settles}
 
 -- ---- what comes in turn
 
--- A part that comes is one that could, by what the mirror knows and its pattern.
+-- A part that a mirror can gain in a settle, by what it knows of and by its pattern.
 record Comes (pattern : Pattern) (ls : Logs) (members : List Member) (known : List ℕ) (t : Part) : Type 0 where
   printed : t.seq ≤ slice_index known t.publisher
   publisher : is_publisher pattern.publisher t.publisher ≡ true
@@ -52,7 +52,7 @@ module _ (pattern : Pattern) (ls : Logs) (members : List Member) where
     someones = held;
   }
 
-  -- So does the last of parts that come in turn.
+  -- The mirror can gain the last of parts that it gains in turn.
   comes_last : (ts : List Part) (m : Mirror) (t : Part) → ComeInTurn pattern ls members (ts ++ t ∷ []) m
       → Comes pattern ls members m.known t
   comes_last [] m t h = comes_wanted m t h.0 h.1
@@ -105,7 +105,7 @@ held_soundly w s t h =
 -- ---- a settle
 
 module _ (w : World) (s : IsSoundGroup w) (old new : MirrorState) (h : HasSettled w old new) where
-  -- What comes to the mirror in parts, and back.
+  -- A part that is gained in the group's view is one that the mirror can gain.
   comes : (t : Part) → is_gained w (mirror_as old) t ≡ true
       → Comes old.pattern (logs w) w.members (join old.known (settled_vector w)) t
   comes t c =
@@ -124,7 +124,7 @@ module _ (w : World) (s : IsSoundGroup w) (old new : MirrorState) (h : HasSettle
       (and_from (t.part == 0 || is_for old.pattern (logs w) (pair_of t)) (someone_holds w.members t) c.part
       c.someones))
 
-  -- It holds a part that comes, if it is a record, or what lists it is held.
+  -- The mirror holds a part that it can gain, if the part is a record, or the part that lists it is held.
   held_if : (t : Part) → Comes old.pattern (logs w) w.members (join old.known (settled_vector w)) t
       → ((t.part == 0) ≡ false → mirror_holds (mirror_in_group new) (parent (shape_at (logs w) (pair_of t)) t) ≡ true)
       → mirror_holds (mirror_in_group new) t ≡ true
@@ -159,7 +159,7 @@ module _ (w : World) (s : IsSoundGroup w) (old new : MirrorState) (h : HasSettle
       not_held = free;
     }
 
-  -- The same publication's parts come by the same.
+  -- Where a part after the record is gained, each other part of the publication that a member holds is gained too.
   comes_too : (t : Part) (x : ℕ) → Comes old.pattern (logs w) w.members (join old.known (settled_vector w)) t
       → (t.part == 0) ≡ false → someone_holds w.members (part_of (pair_of t) x) ≡ true
       → Comes old.pattern (logs w) w.members (join old.known (settled_vector w)) (part_of (pair_of t) x)

@@ -228,7 +228,7 @@ pub begin_again : (n m : ℕ) (patterns : List Pattern)
 begin_again n m [] = refl
 begin_again n m (p ∷ patterns) = ap (λ (ms : List Mirroring). mirror_begins m p ∷ ms) (begin_again n m patterns)
 
--- In the world that begins, the mirrors of these patterns are there, except those that are still to come.
+-- In the world that begins are the mirrors of `all` patterns except those of `rest`, which are still to be added.
 pub record HasBegun (keys : GroupKeys) (begun : World) (all rest : List Pattern) (s : GroupState) : Type 0 where
   pub world : world_of s ≡ begun
   pub same_keys : s.keys ≡ keys

@@ -51,7 +51,7 @@ found octets at e =
       is = take_more octets at 0 facts.0 ∙ ap (λ (t : ℕ). take at octets ++ t ∷ []) feed;
     }
 
--- octets without a line feed before a line are of it
+-- octets without a line feed and a line after them are one line
 pub whole_after : (prefix line : List ℕ) → has_feed prefix ≡ false → IsWhole line → IsWhole (prefix ++ line)
 whole_after prefix line free w = record {
   prefix = prefix ++ w.prefix;

@@ -192,7 +192,8 @@ grouped env p s name is c =
 
 -- ---- members and clients
 
--- A name and a key are kept in addition, and then the labels and names are these. There were so many before.
+-- A name and a key are added, after which the labels and the group are `labels` and `keys`. Before there were `many`
+-- members or clients.
 pub record Declares (env : RunEnvironment) (p : RunState) (s : Stated) (node : List Component) (key : List ℕ)
     (labels : List (List ℕ)) (keys : GroupKeys) (many members : ℕ) (after : List (List Watching))
     (mirrors : List Mirroring) : Type 0 where
@@ -382,7 +383,7 @@ event_acts env p l is c =
       acts = event_says env (state_of_run p) p.words l is;
     }
 
--- There are as many labels as names.
+-- The number of labels is that of the members' names.
 pub as_many : {X : Type 0} (f : X → List ℕ) (xs : List X) (keys : GroupKeys) (d : Declared)
     → NamesAreDeclared (map f xs) keys d
     → length xs ≡ length keys.members.names

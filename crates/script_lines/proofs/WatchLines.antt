@@ -1,4 +1,4 @@
--- What lines of watchers come to, as the run keeps it.
+-- What lines of watchers do to the state that is kept.
 use Rattle.std.proofs.Common.{◌≡◌, ◌∙◌, inl, inr, ℕ, ◌+◌, ◌<◌, Bool, true, not, nat_le, List, [], ◌∷◌}
 use Rattle.std.proofs.Common.{length, map, get_or, Option, Some, None, String, Global, refl, sym, ap, subst}
 use Rattle.std.proofs.Common.{arith, if◌then◌else◌, suc, zero}
@@ -214,7 +214,7 @@ module _ (state : GroupState) (m : ℕ) (entries : List Entry)
       (names_all (length state.keys.members.names) state.keys (drawing (λ _ _. 0)) (world_of state) refl
       (length-map state.members in_group ∙ many) sound (EventValue.Catalogue m) there).1))
 
--- A member that is there has the same watchers, whatever stands for nobody's.
+-- A member that is there has the same watchers, whatever the default is.
 pub same_at : (ws : List (List Watching)) (m : ℕ) (d : List Watching) → m < length ws → get_or ws m d ≡ watchers_of ws m
 same_at [] m d there = absurd (omega (arith, there))
 same_at (w ∷ ws) zero d there = refl

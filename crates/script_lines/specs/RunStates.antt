@@ -32,7 +32,7 @@ phase_keys Opening = no_group
 phase_keys (Declaring group patterns) = group
 phase_keys (Acting world) = world.keys
 
--- The world, once an event came.
+-- The world, once there was an event.
 abbrev pub world_in : Phase → Option World
 world_in Opening = None
 world_in (Declaring group patterns) = None
@@ -50,7 +50,7 @@ mirrors_in Opening = []
 mirrors_in (Declaring group patterns) = map (mirror_begins (length group.members.names)) patterns.items
 mirrors_in (Acting world) = map mirror_as world.mirrors
 
--- What is kept, as a script's run has it.
+-- The state that a phase, the watchers and what was declared stand for in a script's run.
 abbrev pub state_of : Phase → List (List Watching) → Declared → State
 state_of phase watchers d = record {
   declared = d;
@@ -60,7 +60,7 @@ state_of phase watchers d = record {
   mirrors = mirrors_in phase;
 }
 
--- The same of all that is kept.
+-- The state that a `RunState` stands for in a script's run.
 abbrev pub state_of_run : RunState → State
 state_of_run p = state_of p.phase p.watchers.items p.words
 
@@ -70,7 +70,7 @@ has_group Opening = false
 has_group (Declaring group patterns) = true
 has_group (Acting world) = true
 
--- An event came.
+-- There was an event.
 abbrev pub has_world : Phase → Bool
 has_world Opening = false
 has_world (Declaring group patterns) = false
@@ -86,16 +86,16 @@ pub record NamesAreDeclared (kept : List (List ℕ)) (keys : GroupKeys) (d : Dec
   pub members : map party_node d.members ≡ keys.members.names
   pub clients : map party_node d.clients ≡ keys.clients.names
 
--- These labels and this group, watchers of so many members and so many mirrors are those that lines declare, and there
--- are no more mirrors than a group can have.
+-- The labels, the names and keys of the group, the number of members that have watchers and the number of mirrors are
+-- those that lines declare, and there are at most four mirrors.
 pub record IsDeclared (labels : List (List ℕ)) (keys : GroupKeys) (members mirrors : ℕ) (d : Declared) : Type 0 where
   pub named : NamesAreDeclared labels keys d
   pub watched : members ≡ length d.members
   pub mirrored : mirrors ≡ length d.mirrors
   pub few : length d.mirrors ≤ 4
 
--- What is kept is what lines declare: the group stands from its line on, the world from the first event on. Each member
--- has its watchers, be they none.
+-- What is kept is what lines declare: there is a group from its line on, and a world from the first event on. Each
+-- member has its watchers, or none.
 pub record Stands (labels : List (List ℕ)) (phase : Phase) (watchers : List (List Watching))
     (d : Declared) : Type 0 where
   pub declared : IsDeclared labels (phase_keys phase) (length watchers) (length (mirrors_in phase)) d
@@ -112,14 +112,14 @@ IsRunState p = Stands (labels_of p) p.phase p.watchers.items p.words
 
 -- ---- declarations
 
--- The group is there, no event came yet, and lines say the same.
+-- There is a group and there was no event yet, both in what is kept and in what lines declare.
 pub record IsBeforeEvents (phase : Phase) (d : Declared) : Type 0 where
   pub group : d.group ≡ true
   pub early : d.events ≡ false
   pub there : has_group phase ≡ true
   pub unchanged : has_world phase ≡ false
 
--- So it still is, and no step was made.
+-- There is a group, there was no event yet, and no step was made.
 pub record IsStillDeclaring (phase : Phase) : Type 0 where
   pub there : has_group phase ≡ true
   pub unchanged : has_world phase ≡ false
@@ -139,14 +139,15 @@ pub record IsLine (line : Stated) : Type 0 where
   pub octets : List ℕ
   pub read : line_of octets ≡ Ok (Some line)
 
--- The line is taken after those whose labels and standing are kept, and so much is declared after it.
+-- The line follows lines for which the labels, the phase and the watchers of `p` stand, and `p.words` is what the lines
+-- declare together with it.
 pub record LineIsChecked (p : RunState) (s : Stated) : Type 0 where
   pub line : IsLine s
   pub before : Declared
   pub stands : Stands (labels_of p) p.phase p.watchers.items before
   pub after : after_line before s ≡ Ok p.words
 
--- What is kept is what lines declare, where an event is about to be carried out, and the group is there.
+-- What is kept is what lines declare, there is a group, and an event is about to be carried out.
 pub record IsAtEvent (p : RunState) : Type 0 where
   pub declared : IsDeclared (labels_of p) (phase_keys p.phase) (length p.watchers.items)
       (length (mirrors_in p.phase)) p.words
@@ -154,7 +155,7 @@ pub record IsAtEvent (p : RunState) : Type 0 where
   pub events : p.words.events ≡ true
   pub begun : has_group p.phase ≡ true
 
--- The same, and there is a mirror of this number.
+-- There is a mirror of this number, and an event is about to be carried out.
 pub record MirrorIsThere (p : RunState) (i : ℕ) : Type 0 where
   pub there : i < length (mirrors_in p.phase)
   pub event : IsAtEvent p
@@ -172,7 +173,7 @@ IsEventLine (line.Mfetch l workers tries loss) = ⊥
 IsEventLine (line.Mcatalogue l) = ⊥
 IsEventLine _ = Unit {0}
 
--- An event that a line states can be carried out where so much is declared.
+-- An event that the line states can be carried out where `d` is what lines declare.
 pub record StatesFit (d : Declared) (line : Stated) : Type 0 where
   pub fits : (e : EventValue) → stated_event d line ≡ Some e → EventFits (length d.members) (length d.clients) e
   pub known : are_known d line ≡ true
@@ -189,7 +190,7 @@ pub record FetchFits (threads times : ℕ) : Type 0 where
 
 -- ---- worlds
 
--- The event is none that the group refuses, and this is its step.
+-- The group doesn't refuse the event, and `new` is the state after its step.
 pub record HasStepped (env : RunEnvironment) (e : EventValue) (old new : GroupState) : Type 0 where
   pub taken : group.refusal (outside_of env old.keys) (world_of old) (group_event old.keys e) ≡ None
   pub world : world_of new ≡ after_event (outside_of env old.keys) (world_of old) (group_event old.keys e)
@@ -197,7 +198,7 @@ pub record HasStepped (env : RunEnvironment) (e : EventValue) (old new : GroupSt
   pub keys : new.keys ≡ old.keys
   pub steps : new.steps ≡ old.steps + 1
 
--- Nothing but the mirrors of a world may have changed, and so many steps were made by now.
+-- Nothing but the mirrors of a world may have changed, and `made` steps were made.
 pub record IsSameGroup (old new : GroupState) (made : ℕ) : Type 0 where
   pub world : world_of new ≡ world_of old
   pub keys : new.keys ≡ old.keys
@@ -205,19 +206,19 @@ pub record IsSameGroup (old new : GroupState) (made : ℕ) : Type 0 where
 
 -- ---- why a line isn't taken
 
--- Memory ran out, or the line stops the run so.
+-- Memory ran out, or the error is the one of this verdict.
 abbrev pub IsLineError : Verdict → LineError → Type 0
 IsLineError verdict error.NoMemory = Unit {0}
 IsLineError verdict (error.Refused refusal) = verdict ≡ refused refusal
 IsLineError verdict error.Foreign = verdict ≡ foreign
 
--- Memory ran out, or it is this refusal that comes.
+-- Memory ran out, or the line is refused with `why`, and the condition `comes` is true.
 abbrev pub IsStopWhere : Bool → Refusal → LineError → Type 0
 IsStopWhere comes why error.NoMemory = Unit {0}
 IsStopWhere comes why (error.Refused refusal) = (comes ≡ true) × (refusal ≡ why)
 IsStopWhere comes why error.Foreign = ⊥
 
--- Memory ran out, or the event is refused so.
+-- Memory ran out, or the error is the one of this refusal of an event.
 abbrev pub IsLineErrorOf : Option group.Refusal → LineError → Type 0
 IsLineErrorOf refusal error.NoMemory = Unit {0}
 IsLineErrorOf None error = ⊥

@@ -10,7 +10,7 @@ use Rattle.script_story.specs.ScriptRun.{Reached}
 abbrev pub reached : Script → Reached
 reached s = record { lines = s.lines; octets = s.octets; printed = s.printed; state = state_of_run s.run_state }
 
--- What is kept is what they declare and did, each line made one step at most, and all is within the limits.
+-- What is kept is what the lines so far declare and do, each line made at most one step, and all is within the limits.
 pub record IsScript (s : Script) : Type 0 where
   pub run_state : IsRunState s.run_state
   pub steps : steps s.run_state ≤ s.lines

@@ -17,7 +17,7 @@ pub enum LineError {
     NoMemory,
 }
 
-/// Puts down why the run stops at the line of this number, in place of what stood there, and gives its status.
+/// Writes into `report`, in place of its octets, why the run stops at the line of this number, and gives the status.
 pub fn put_line_error(
     report: &mut Vec<u8>,
     line: u32,

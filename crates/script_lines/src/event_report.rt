@@ -23,7 +23,8 @@ use script_report::{
 };
 use std::alloc::AllocError;
 
-// Writes the report of what happened, under the labels of the members, kind by kind as `event_of_line` goes.
+// Writes the report of an event's outcome, under the labels of the members. Like `event_of_line` it goes by kinds of
+// lines.
 pub(crate) fn put_event_report(
     report: &mut Vec<u8>,
     labels: &[String],
@@ -60,7 +61,7 @@ pub(crate) fn put_event_report(
     }
 }
 
-// Writes the report of what members have or of the whole group, or of a kind below.
+// Writes the report of what members have or of the whole group, or of a kind of `put_of_parts`.
 fn put_of_group(
     report: &mut Vec<u8>,
     labels: &[String],
@@ -97,7 +98,7 @@ fn put_of_group(
     }
 }
 
-// Writes the report of parts that are claimed, or of a kind below.
+// Writes the report of parts that are claimed, or of a kind of `put_of_packets`.
 fn put_of_parts(
     report: &mut Vec<u8>,
     labels: &[String],
@@ -143,7 +144,7 @@ fn put_of_parts(
     }
 }
 
-// Writes the report of fetches or of packets that come or are asked for, or of a kind below.
+// Writes the report of fetches, of packets that are printed or given, or of a kind of `put_of_insertions`.
 fn put_of_packets(
     report: &mut Vec<u8>,
     labels: &[String],
@@ -184,7 +185,7 @@ fn put_of_packets(
     }
 }
 
-// Writes the report of an insertion and its blocks, or of a kind below.
+// Writes the report of an insertion and its blocks, or of a kind of `put_of_commands`.
 fn put_of_insertions(
     report: &mut Vec<u8>,
     labels: &[String],
@@ -276,7 +277,7 @@ fn put_of_commands(
     }
 }
 
-// Writes what is reported to the watcher of this number of a member.
+// Writes what is reported to watcher `number` of member `m`.
 pub(crate) fn put_news(
     report: &mut Vec<u8>,
     labels: &[String],

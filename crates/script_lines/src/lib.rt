@@ -1,5 +1,5 @@
-//! The lines of a script, carried out one by one: each is read, tested after those before it, and done over the world
-//! of its group, and its report is written. Who calls it looks at the world between lines.
+//! The lines of a script, carried out one by one: each is read, tested against what the lines before it declared, and
+//! carried out in the world of its group, and its report is written. The caller can look at the world between lines.
 //!
 //! What is promised of it: `docs/promises/script_lines.md`.
 #![tactic(auto)]

@@ -14,11 +14,10 @@ use ndn_name::Name;
 use repo_watch::Pattern;
 use script_lang::{Line, Words};
 
-// The event that a line states, whose labels the words have declared; none of a declaration or a line of watchers or
-// mirrors.
+// The event that a line states, whose labels are declared; none of a declaration or a line of watchers or mirrors.
 //
-// Lines go kind by kind, a function each that passes what is of no kind yet to the next, since one function over all
-// lines takes minutes to prove.
+// There is a function for each kind of lines, which passes a line of another kind on to the next function: to prove one
+// function over all lines takes minutes.
 pub(crate) fn event_of_line(words: &Words, line: Line) -> Option<Event>
     requires { are_known words.now (stated line) ≡ true }
     ensures { option_map event_value result ≡ stated_event words.now (stated line) }
@@ -56,7 +55,7 @@ pub(crate) fn event_of_line(words: &Words, line: Line) -> Option<Event>
     Some(event)
 }
 
-// The event of a line that asks what members have or is of the whole group, or of a kind below.
+// The event of a line that asks what members have or is of the whole group, or of a kind of `stated_of_parts`.
 fn stated_of_group(words: &Words, line: Line) -> Option<Event>
     requires { are_known words.now (stated line) ≡ true }
     ensures { option_map event_value result ≡ stated_of_group (stated line).verb words.now (stated line).values }
@@ -76,7 +75,7 @@ fn stated_of_group(words: &Words, line: Line) -> Option<Event>
     Some(event)
 }
 
-// The event of a line of parts that are claimed, or of a kind below.
+// The event of a line of parts that are claimed, or of a kind of `stated_of_packets`.
 fn stated_of_parts(words: &Words, line: Line) -> Option<Event>
     requires { are_known words.now (stated line) ≡ true }
     ensures { option_map event_value result ≡ stated_of_parts (stated line).verb words.now (stated line).values }
@@ -100,7 +99,7 @@ fn stated_of_parts(words: &Words, line: Line) -> Option<Event>
     Some(event)
 }
 
-// The event of a line that fetches, or brings a packet or asks for one, or of a kind below.
+// The event of a line that fetches, or gives a packet or asks for one, or of a kind of `stated_of_insertions`.
 fn stated_of_packets(words: &Words, line: Line) -> Option<Event>
     requires { are_known words.now (stated line) ≡ true }
     ensures { option_map event_value result ≡ stated_of_packets (stated line).verb words.now (stated line).values }
@@ -141,7 +140,7 @@ fn stated_of_packets(words: &Words, line: Line) -> Option<Event>
     Some(event)
 }
 
-// The event of a line of an insertion and its blocks, or of a kind below.
+// The event of a line of an insertion and its blocks, or of a kind of `stated_of_commands`.
 fn stated_of_insertions(words: &Words, line: Line) -> Option<Event>
     requires { are_known words.now (stated line) ≡ true }
     ensures { option_map event_value result ≡ stated_of_insertions (stated line).verb words.now (stated line).values }

@@ -10,13 +10,13 @@ use script_lang::LINE_LIMIT;
 use std::alloc::{AllocError, Global};
 use std::marker::Model;
 
-// How many octets are held at most.
+// At most this many octets are held.
 const ROOM: usize = 65_536;
 
 /// The line with which the octets held begin.
 #[derive(Clone, Copy, Debug, PartialEq, Eq)]
 pub enum Next {
-    /// So many octets are a line with its line feed, or are too long for a line already.
+    /// The first octets held are a line with its line feed, or are too long for a line already: their number.
     Line(usize),
     /// The input has ended, and all that is held is the last line.
     Last,
@@ -26,15 +26,15 @@ pub enum Next {
 #[derive(Drop)]
 pub struct LineReader {
     room: Vec<u8>,
-    // What is held stands from here..
+    // Where the octets held begin in `room`.
     start: usize,
-    // ..to here.
+    // Where the octets held end in `room`.
     end: usize,
-    // No line feed stands between the start and here.
+    // No line feed stands between `start` and `searched`.
     searched: usize,
 }
 
-// It is seen as what is held.
+// A reader is seen as the octets that it holds.
 impl Model for LineReader {
     ghost use Rattle.std.specs.Prelude.{ℕ, List, slice_range};
     ghost use Rattle.script_lines.specs.Reading.{IsReader};
@@ -47,7 +47,7 @@ impl Model for LineReader {
 }
 
 impl LineReader {
-    /// Room for 65,536 octets.
+    /// A reader with capacity for 65,536 octets, which holds none.
     pub fn new(alloc: Global) -> Result<LineReader, AllocError>
         ensures { IfOk result (λ reader. reader ≡ []) }
     {
@@ -66,7 +66,7 @@ impl LineReader {
         &self.room[self.start..self.end]
     }
 
-    /// The first octets held.
+    /// The first `count` octets held.
     pub fn prefix(&self, count: usize) -> &[u8]
         requires { count ≤ length self.now }
         ensures { result.now ≡ take count self.now }
@@ -75,7 +75,7 @@ impl LineReader {
         prefix
     }
 
-    /// Passes over the first octets held.
+    /// Passes over the first `count` octets held.
     pub fn pass(&mut self, count: usize)
         requires { count ≤ length self.old }
         ensures { self.new ≡ drop count self.old }
@@ -84,7 +84,7 @@ impl LineReader {
         self.searched = self.start;
     }
 
-    /// The line with which what is held begins. No more is read than that takes.
+    /// The line with which the octets held begin. No more is read than is needed to find its end.
     pub fn next<S: Source>(&mut self, source: &mut S) -> Result<Next, Failed>
         ensures kept { Keeps (prepend_known self.old (S.left source.old)) (prepend_known self.new (S.left source.new)) }
         ensures few { length self.new ≤ 65536 }
@@ -104,7 +104,7 @@ impl LineReader {
         }
     }
 
-    // How many octets at the start are a line, or too long for one.
+    // The number of octets at the start that are a line or too long for one.
     fn line(&mut self) -> Option<usize>
         ensures held { self.new ≡ self.old }
         ensures few { length self.new ≤ 65536 }
@@ -118,7 +118,7 @@ impl LineReader {
         found
     }
 
-    // Reads as many octets as one call gives, and returns how many.
+    // Reads the octets that one call of the source gives, and returns their number.
     fn read<S: Source>(&mut self, source: &mut S) -> Result<usize, Failed>
         requires { LineIsBegun self.old }
         ensures kept { Keeps (prepend_known self.old (S.left source.old)) (prepend_known self.new (S.left source.new)) }
@@ -140,7 +140,7 @@ impl LineReader {
     }
 }
 
-// How many octets are the first line, of which the first so many have no line feed, or are too long for one.
+// The number of octets that are the first line or too long for one. The first `searched` octets have no line feed.
 fn find_line(held: &[u8], searched: usize) -> Option<usize>
     requires within { searched ≤ length held.now }
     requires free { has_feed (take searched held.now) ≡ false }
@@ -171,7 +171,7 @@ fn move_to_start(room: &mut [u8], start: usize, end: usize)
     }
 }
 
-// Reads octets after the first so many of the room.
+// Reads octets into `room`, after its first `held` octets.
 fn read_after<S: Source>(source: &mut S, room: &mut [u8], held: usize) -> Result<usize, Failed>
     requires { held < length room.old }
     ensures prefix { take held room.new ≡ take held room.old }

@@ -37,18 +37,18 @@ use std::alloc::Global;
 use std::mem;
 use std::thread::Threads;
 
-// How far a script is. A step takes the world out and puts it back; a run ends at a line that is refused, so nobody
-// asks how it stands after one.
+// How far a script's declarations and events are. A step takes the world out of the phase and puts it back. A run ends
+// at a line that is refused, so the phase isn't used after one.
 pub(crate) enum Phase {
     // No group is declared.
     Opening,
     // Members, clients and mirrors may still be declared: the group, and what the mirrors ask for.
     Declaring(Group, Vec<Pattern>),
-    // An event came.
+    // There was an event: the world.
     Acting(World),
 }
 
-// It is dropped by one call, which is proved once, and not by its parts wherever another takes its place.
+// A phase is dropped by one call, which is proved once, and not variant by variant wherever one is replaced.
 impl Drop for Phase {
     fn drop(self) {
         match self {
@@ -69,7 +69,7 @@ pub(crate) struct RunState {
 }
 
 impl RunState {
-    // Nothing was taken.
+    // The state before the first line.
     pub(crate) fn new(alloc: Global) -> RunState
         ensures initial { state_of_run result ≡ initial_state }
         ensures steps { steps result ≡ 0 }
@@ -84,7 +84,7 @@ impl RunState {
         }
     }
 
-    // Takes a line, its line feed with it, and writes its report; or returns why not.
+    // Takes a line, which includes its line feed, and writes its report; or returns why the line isn't taken.
     pub(crate) fn take<N: Net + Sync, D: Draws, R: Threads + Sync>(
         &mut self,
         rt: &R,
@@ -135,7 +135,7 @@ impl RunState {
         self.follow(rt, line, report, net, draws)
     }
 
-    // Does what a line says that the words have taken.
+    // Carries out a line that was tested against what the lines before it declared.
     fn follow<N: Net + Sync, D: Draws, R: Threads + Sync>(
         &mut self,
         rt: &R,
@@ -277,7 +277,7 @@ impl RunState {
         self.carry_out(rt, &event, report, net, draws)
     }
 
-    // Carries out an event in the world that it finds, which the first one makes.
+    // Carries out an event in the world. The first event makes it.
     fn carry_out<N: Net + Sync, D: Draws, R: Threads + Sync>(
         &mut self,
         rt: &R,
@@ -326,7 +326,7 @@ impl RunState {
         }
     }
 
-    // The same, where no line follows.
+    // The world that the events made, if there was one, where no line follows.
     pub(crate) fn into_world(self) -> Option<World>
         ensures world { option_map world_of result ≡ (state_of_run self).world }
         ensures keys { IfSome result (λ world. world.keys ≡ (state_of_run self).keys) }
@@ -379,7 +379,7 @@ impl Phase {
         Ok(())
     }
 
-    // A mirror more, which asks for this.
+    // Adds a mirror with this pattern.
     fn add_mirror(&mut self, pattern: Pattern) -> Result<(), LineError>
         requires there { has_group self.old ≡ true }
         requires unchanged { has_world self.old ≡ false }
@@ -396,7 +396,8 @@ impl Phase {
         Ok(())
     }
 
-    // The world that an event finds: its members have nothing before the first, and its mirrors know of nothing.
+    // The world in which an event is carried out. Before the first event its members have nothing, and its mirrors know
+    // of no publication.
     fn begin<D: Draws>(self, alloc: Global, draws: &D) -> Result<World, LineError>
         requires there { has_group self ≡ true }
         requires few { length (mirrors_in self) ≤ 4 }

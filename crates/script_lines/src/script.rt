@@ -16,19 +16,19 @@ use script_report::{REPORT_LIMIT, Refusal};
 use std::alloc::Global;
 use std::thread::Threads;
 
-/// A script whose lines are carried out one by one. Contracts see the state after them (`reached`), not a view: a view
-/// must be without functions, and the mirrors of a run have one.
+/// A script whose lines are carried out one by one. Contracts see the state after the lines so far (`reached`), not a
+/// view: a view must be without functions, and the mirrors of a run have one.
 #[derive(Drop)]
 pub struct Script {
     run_state: RunState,
-    // How many lines were carried out, how many octets they have, and how many their reports.
+    // How many lines were carried out, how many octets they have, and how many octets their reports have.
     lines: u32,
     octets: usize,
     printed: usize,
 }
 
 impl Script {
-    /// No line was carried out.
+    /// A script of which no line was carried out.
     pub fn new(alloc: Global) -> Script
         ensures reached { reached result ≡ nothing_reached }
         ensures is { IsScript result }
@@ -49,8 +49,8 @@ impl Script {
         self.lines + 1
     }
 
-    /// Carries out the next line, its line feed with it, and leaves its report in place of what stood there; or tells
-    /// why it isn't taken.
+    /// Carries out the next line, which includes its line feed, and writes its report into `report`, in place of its
+    /// octets; or returns why the line isn't taken.
     pub fn take<R: Threads + Sync, N: Net + Sync, D: Draws>(
         mut self,
         rt: &R,
@@ -98,7 +98,7 @@ impl Script {
         self.run_state.world()
     }
 
-    /// The same, where no line follows.
+    /// The world that the events made, if there was one, where no line follows.
     pub fn into_world(self) -> Option<World>
         ensures world { option_map world_of result ≡ (reached self).state.world }
         ensures keys { IfSome result (λ world. world.keys ≡ (reached self).state.keys) }

@@ -1,4 +1,4 @@
--- A member's number stands for its label.
+-- The label at a member's number is in the list.
 use Rattle.std.proofs.Common.{zero, suc, ◌<◌, [], ◌∷◌, length, refl, arith}
 use Rattle.script_report.specs.Labels.{MembersHaveLabels}
 

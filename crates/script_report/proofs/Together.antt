@@ -10,7 +10,7 @@ use Rattle.script_report.specs.Texts.{after_spaces, labelled_numbers, entry_text
 use Rattle.script_report.specs.Texts.{summary_text}
 use Rattle.script_report.proofs.Prefixes.{keeps_same, keeps_then}
 
--- what is written of the first places of both lists is written, and what was there stands in front
+-- the text of the first `n` places of both lists is written, after the octets that were there
 pub record Writes {A B : Type 0} (F : List A → List B → List ℕ) (xs : List A) (ys : List B) (n : ℕ)
     (old new : List ℕ) : Type 0 where
   pub written : new ++ F (drop n xs) (drop n ys) ≡ old ++ F xs ys
@@ -54,7 +54,7 @@ writes_more F f text xs ys n m x y old mid new lt lu p q next w more kept = rw n
   kept = keeps_then old mid new w.kept kept;
 })
 
--- after the last place of one there is nothing
+-- after the last place of the shorter list there is no text
 nothing_left : {A B : Type 0} (F : List A → List B → List ℕ) (f : A → B → List ℕ) → IsText F f
     → (xs : List A) (ys : List B) (n : ℕ) → n ≡ min (length xs) (length ys) → F (drop n xs) (drop n ys) ≡ []
 nothing_left F f text xs ys n h = elim (cases_lt (length ys) (length xs)) [

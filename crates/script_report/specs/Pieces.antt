@@ -10,12 +10,12 @@ use Rattle.script_report.specs.declared.piece.Piece.{Piece}
 use Rattle.script_report.specs.declared.piece.Piece.TheVariants.{Word, Number, Hex, Uri, Field, Counts}
 use Rattle.script_report.specs.Texts.{field, labelled_numbers}
 
--- The text stands after what was there; or, where memory ran out, nothing changed.
+-- The text is appended; or, where memory ran out, nothing is changed.
 abbrev pub Appends : List ℕ → List ℕ → List ℕ → Result (Unit {0}) AllocError → Type 0
 Appends text old new (Ok x) = new ≡ old ++ text
 Appends text old new (Err e) = new ≡ old
 
--- What was there stands in front still.
+-- The new octets begin with the old ones.
 pub record KeepsPrefix (old new : List ℕ) : Type 0 where
   pub prefix : take (length old) new ≡ old
 

@@ -18,7 +18,7 @@ line first words = first ++ (after_spaces words ++ 10 ∷ [])
 
 -- ---- events
 
--- A publication: its member, number, segments, sync Interest and name.
+-- A publication: its member, its number, how many segments it has, and the number of its sync Interest.
 abbrev pub publish_text : List ℕ → ℕ → ℕ → ℕ → List ℕ
 publish_text m seq segments sync = line (codes "publish")
     (m ∷ decimal seq ∷ codes "segments" ∷ decimal segments ∷ codes "sync" ∷ decimal sync ∷ [])
@@ -48,7 +48,7 @@ advance_text now = line (codes "advance") (codes "now" ∷ decimal now ∷ [])
 abbrev pub fire_early_text : List ℕ → List ℕ
 fire_early_text m = line (codes "fire") (m ∷ codes "early" ∷ [])
 
--- A member's timer was due, and it sent nothing: what it heard has all that it knows.
+-- A member's timer was due, and it sent nothing, because what it heard has all that it knows of.
 abbrev pub fire_quiet_text : List ℕ → List ℕ
 fire_quiet_text m = line (codes "fire") (m ∷ codes "quiet" ∷ [])
 
@@ -79,13 +79,14 @@ answer_kept_text m f = line (codes "answer") (m ∷ decimal f ∷ codes "kept" �
 abbrev pub answer_none_text : List ℕ → ℕ → List ℕ
 answer_none_text m f = line (codes "answer") (m ∷ decimal f ∷ codes "none" ∷ [])
 
--- So many parts were planned, so many of them came, in so many attempts.
+-- A fetch by a member or a mirror: how many parts were planned, how many of them were received, and in how many
+-- attempts.
 abbrev pub fetched_text : List ℕ → List ℕ → ℕ → ℕ → ℕ → List ℕ
 fetched_text verb label planned kept attempts = line verb
     (label ∷ codes "planned" ∷ decimal planned ∷ codes "kept" ∷ decimal kept
     ∷ codes "attempts" ∷ decimal attempts ∷ [])
 
--- What a fetch brought to a member.
+-- A fetch by a member.
 abbrev pub fetch_text : List ℕ → ℕ → ℕ → ℕ → List ℕ
 fetch_text m planned kept attempts = fetched_text (codes "fetch") m planned kept attempts
 
@@ -153,11 +154,11 @@ command_text verb m code process inserted deleted = line verb
 abbrev pub block_300_text : List ℕ → List ℕ
 block_300_text m = line (codes "block") (m ∷ codes "300" ∷ [])
 
--- A block came for no process or no index that there is.
+-- A block was given for a process or an index that doesn't exist.
 abbrev pub block_404_text : List ℕ → List ℕ
 block_404_text m = line (codes "block") (m ∷ codes "404" ∷ [])
 
--- A block came for a process whose object is published.
+-- A block was given for a process whose object is published.
 abbrev pub block_200_text : List ℕ → List ℕ
 block_200_text m = line (codes "block") (m ∷ codes "200" ∷ [])
 
@@ -190,7 +191,7 @@ entries_text [] entries = []
 entries_text (label ∷ labels) [] = []
 entries_text (label ∷ labels) (e ∷ entries) = entry_text label e ++ entries_text labels entries
 
--- The catalogue of a member: how many entries, and these.
+-- The catalogue of a member: the number of its entries, and the entries.
 abbrev pub catalogue_text : List ℕ → ℕ → List (List ℕ) → List Entry → List ℕ
 catalogue_text m count labels entries =
     line (codes "catalogue") (m ∷ decimal count ∷ []) ++ entries_text labels entries
@@ -201,7 +202,7 @@ catalogue_text m count labels entries =
 abbrev pub watch_text : List ℕ → ℕ → List ℕ
 watch_text m w = line (codes "watch") (m ∷ decimal w ∷ [])
 
--- What a watcher is given: how many entries, and these.
+-- The news of a watcher: the number of entries, and the entries.
 abbrev pub told_text : List ℕ → ℕ → ℕ → List (List ℕ) → List Entry → List ℕ
 told_text m w count labels entries =
     line (codes "told") (m ∷ decimal w ∷ decimal count ∷ []) ++ entries_text labels entries
@@ -210,24 +211,24 @@ told_text m w count labels entries =
 abbrev pub mdeliver_text : ℕ → List ℕ → List ℕ
 mdeliver_text k l = line (codes "mdeliver") (decimal k ∷ l ∷ [])
 
--- What a fetch brought to a mirror.
+-- A fetch by a mirror.
 abbrev pub mfetch_text : List ℕ → ℕ → ℕ → ℕ → List ℕ
 mfetch_text l planned kept attempts = fetched_text (codes "mfetch") l planned kept attempts
 
--- The catalogue of a mirror: how many entries, and these.
+-- The catalogue of a mirror: the number of its entries, and the entries.
 abbrev pub mcatalogue_text : List ℕ → ℕ → List (List ℕ) → List Entry → List ℕ
 mcatalogue_text l count labels entries =
     line (codes "mcatalogue") (l ∷ decimal count ∷ []) ++ entries_text labels entries
 
 -- ---- totals
 
--- What a member holds.
+-- The totals of a member's catalogue.
 abbrev pub totals_text : List ℕ → ℕ → ℕ → ℕ → List ℕ
 totals_text label entries segments octets = line (codes "summary")
     (label ∷ codes "entries" ∷ decimal entries ∷ codes "segments" ∷ decimal segments
     ∷ codes "octets" ∷ decimal octets ∷ [])
 
--- What each member holds, a line for each.
+-- The totals of each member's catalogue, one line each.
 unfoldable pub summary_text : List (List ℕ) → List ℕ → List ℕ → List ℕ → List ℕ
 summary_text [] entries segments octets = []
 summary_text (label ∷ labels) [] segments octets = []
@@ -236,7 +237,7 @@ summary_text (label ∷ labels) (e ∷ entries) (s ∷ segments) [] = []
 summary_text (label ∷ labels) (e ∷ entries) (s ∷ segments) (o ∷ octets) =
     totals_text label e s o ++ summary_text labels entries segments octets
 
--- What was counted: sync Interests sent and delivered, attempts, and parts that came, with their octets.
+-- What was counted: sync Interests sent and delivered, attempts, and parts that were received, with their octets.
 abbrev pub traffic_text : ℕ → ℕ → ℕ → ℕ → ℕ → List ℕ
 traffic_text syncs delivered attempts parts octets = line (codes "traffic")
     (codes "syncs" ∷ decimal syncs ∷ codes "delivered" ∷ decimal delivered
@@ -244,7 +245,7 @@ traffic_text syncs delivered attempts parts octets = line (codes "traffic")
 
 -- ---- journals of a live group
 
--- How many entries follow of a member's journal.
+-- The first line of a member's journal: how many entries follow.
 abbrev pub journal_text : List ℕ → ℕ → List ℕ
 journal_text m count = line (codes "journal") (m ∷ decimal count ∷ [])
 
@@ -265,7 +266,7 @@ journal_part_text verb f label seq x =
 abbrev pub journal_fetcher_text : List ℕ → ℕ → List ℕ → List ℕ
 journal_fetcher_text verb f why = line verb (decimal f ∷ why ∷ [])
 
--- A fetcher, the part whose packet came for it, and what became of it.
+-- A fetcher, the part whose packet was received for it, and the result.
 abbrev pub journal_feed_text : ℕ → List ℕ → ℕ → ℕ → List ℕ → List ℕ
 journal_feed_text f label seq x how =
     line (codes "feed") (decimal f ∷ label ∷ decimal seq ∷ decimal x ∷ how ∷ [])

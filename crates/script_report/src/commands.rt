@@ -7,7 +7,7 @@ use crate::line::put_line;
 use crate::piece::Piece::{Field, Number, Word};
 use std::alloc::AllocError;
 
-/// The answer to a command that came as octets. `deleted` is printed as packets.
+/// The answer to a command that was given as octets. `deleted` is printed as packets.
 pub fn put_order(
     out: &mut Vec<u8>,
     m: &str,
@@ -93,7 +93,7 @@ fn put_command(
     )
 }
 
-/// Blocks of the process are missing still.
+/// The block was taken, and blocks of its process are still missing.
 pub fn put_block_300(out: &mut Vec<u8>, m: &str) -> Result<(), AllocError>
     ensures { Appends (block_300_text m.now) out.old.items out.new.items result }
 {
@@ -107,7 +107,7 @@ pub fn put_block_404(out: &mut Vec<u8>, m: &str) -> Result<(), AllocError>
     put_line(out, "block", &[Word(m), Word("404")])
 }
 
-/// The process was published before.
+/// The object of the process is already published.
 pub fn put_block_200(out: &mut Vec<u8>, m: &str) -> Result<(), AllocError>
     ensures { Appends (block_200_text m.now) out.old.items out.new.items result }
 {

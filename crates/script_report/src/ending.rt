@@ -5,7 +5,7 @@ use crate::line::put_line;
 use crate::piece::Piece::{Number, Word};
 use std::alloc::AllocError;
 
-/// How many octets the lines of a report may have together, a line `refused` or `foreign` not among them.
+/// The most octets that the lines of a report have together, a line `refused` or `foreign` not counted.
 pub const REPORT_LIMIT: usize = 268_435_456;
 
 /// The script's line of this number is refused; the report ends.
@@ -15,7 +15,7 @@ pub fn put_refused(out: &mut Vec<u8>, line: u64, number: u64, word: &str) -> Res
     put_line(out, "refused", &[Number(line), Number(number), Word(word)])
 }
 
-/// The script's line of this number brought what no member made; the report ends.
+/// The script's line of this number brought octets that no member made; the report ends.
 pub fn put_foreign(out: &mut Vec<u8>, line: u64) -> Result<(), AllocError>
     ensures { Appends (foreign_text line) out.old.items out.new.items result }
 {

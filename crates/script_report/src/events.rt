@@ -91,7 +91,7 @@ pub fn put_fire_early(out: &mut Vec<u8>, m: &str) -> Result<(), AllocError>
     put_line(out, "fire", &[Word(m), Word("early")])
 }
 
-/// The timer fired, and what was heard meanwhile is enough.
+/// The timer fired, and the member sent nothing: what it heard has all that it knows of.
 pub fn put_fire_quiet(out: &mut Vec<u8>, m: &str) -> Result<(), AllocError>
     ensures { Appends (fire_quiet_text m.now) out.old.items out.new.items result }
 {

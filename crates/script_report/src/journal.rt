@@ -7,7 +7,7 @@ use crate::line::put_line;
 use crate::piece::Piece::{Hex, Number, Word};
 use std::alloc::AllocError;
 
-/// The journal of a member of a live group, of which so many entries follow.
+/// The first line of the journal of a member of a live group: `count` entries follow.
 pub fn put_journal(out: &mut Vec<u8>, m: &str, count: u64) -> Result<(), AllocError>
     ensures { Appends (journal_text m.now count) out.old.items out.new.items result }
 {
@@ -62,7 +62,7 @@ pub fn put_journal_claim_part(
     put_part(out, "claim", f, label, seq, x)
 }
 
-/// No part is left for a fetcher to claim.
+/// There is no part for a fetcher to claim.
 pub fn put_journal_claim_none(out: &mut Vec<u8>, f: u64) -> Result<(), AllocError>
     ensures { Appends (journal_fetcher_text (codes "claim") f (codes "none")) out.old.items out.new.items result }
 {
@@ -76,7 +76,7 @@ pub fn put_journal_claim_refused(out: &mut Vec<u8>, f: u64) -> Result<(), AllocE
     put_line(out, "claim", &[Number(f), Word("refused")])
 }
 
-/// The packet of part `x` of a publication came for a fetcher's claim, and was kept.
+/// The packet of part `x` of a publication was received for a fetcher's claim, and was kept.
 pub fn put_journal_feed_kept(
     out: &mut Vec<u8>,
     f: u64,
@@ -89,7 +89,7 @@ pub fn put_journal_feed_kept(
     put_feed(out, f, label, seq, x, "kept")
 }
 
-/// The packet of part `x` of a publication came for a fetcher that doesn't claim it.
+/// The packet of part `x` of a publication was received for a fetcher that doesn't claim it.
 pub fn put_journal_feed_refused(
     out: &mut Vec<u8>,
     f: u64,
@@ -102,7 +102,7 @@ pub fn put_journal_feed_refused(
     put_feed(out, f, label, seq, x, "refused")
 }
 
-// A fetcher, the part whose packet came, and what became of it.
+// A fetcher, the part whose packet was received, and the result.
 fn put_feed<'a>(
     out: &mut Vec<u8>,
     f: u64,

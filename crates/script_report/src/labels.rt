@@ -4,7 +4,7 @@ ghost use Rattle.script_report.specs.Labels.{label_at, publisher_label};
 use repo_catalog::Entry;
 use std::alloc::{AllocError, Global};
 
-/// The label of a member. `?` stands for that of a number that is no member's.
+/// The label of member `m`, or `?` where `m` is no member's number.
 pub fn label(labels: &[String], m: u32) -> &str
     ensures { result.now ≡ label_at (map string_bytes labels.now) m }
 {

@@ -18,7 +18,8 @@ pub(crate) fn put_line(
     all_or_nothing(out, before, written)
 }
 
-// The same, but what was there may stand in front of some more if memory ran out.
+// Appends a line: its first word, the words of the pieces, and a line feed. Where memory ran out, a part of the line
+// may have been appended.
 #[tactic(auto, unfolding(crate::specs::Texts::line))]
 pub(crate) fn write_line(
     out: &mut Vec<u8>,
@@ -33,7 +34,7 @@ pub(crate) fn write_line(
     out.extend_from_slice(b"\n")
 }
 
-// Takes away what was written after so many octets, where memory ran out.
+// Takes away what was written after the first `before` octets, where memory ran out.
 pub(crate) fn all_or_nothing(
     out: &mut Vec<u8>,
     before: usize,

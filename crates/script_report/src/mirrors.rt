@@ -16,7 +16,7 @@ pub fn put_mdeliver(out: &mut Vec<u8>, k: u64, l: &str) -> Result<(), AllocError
     put_line(out, "mdeliver", &[Number(k), Word(l)])
 }
 
-/// For a mirror so many parts were planned, so many of them came, in so many attempts.
+/// A fetch of a mirror: `planned` parts were planned, and `kept` of them were received, in `attempts` attempts.
 pub fn put_mfetch(
     out: &mut Vec<u8>,
     l: &str,

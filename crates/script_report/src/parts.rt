@@ -22,7 +22,7 @@ pub fn put_claim_part<'a>(
     put_part(out, "claim", m, f, label, seq, x)
 }
 
-/// No part is left for a fetcher to claim.
+/// There is no part for a fetcher to claim.
 pub fn put_claim_none(out: &mut Vec<u8>, m: &str, f: u64) -> Result<(), AllocError>
     ensures { Appends (claim_none_text m.now f) out.old.items out.new.items result }
 {
@@ -71,21 +71,21 @@ fn put_part<'a>(
     )
 }
 
-/// What another member served for a claim passed its checks.
+/// A packet that another member answered for a fetcher's claim was kept.
 pub fn put_answer_kept(out: &mut Vec<u8>, m: &str, f: u64) -> Result<(), AllocError>
     ensures { Appends (answer_kept_text m.now f) out.old.items out.new.items result }
 {
     put_line(out, "answer", &[Word(m), Number(f), Word("kept")])
 }
 
-/// Nothing that passes was served for a claim.
+/// Nothing that was answered for a fetcher's claim was kept.
 pub fn put_answer_none(out: &mut Vec<u8>, m: &str, f: u64) -> Result<(), AllocError>
     ensures { Appends (answer_none_text m.now f) out.old.items out.new.items result }
 {
     put_line(out, "answer", &[Word(m), Number(f), Word("none")])
 }
 
-/// So many parts were planned, so many of them came, in so many attempts.
+/// A fetch of a member: `planned` parts were planned, and `kept` of them were received, in `attempts` attempts.
 pub fn put_fetch(
     out: &mut Vec<u8>,
     m: &str,
@@ -124,7 +124,7 @@ pub(crate) fn put_fetched(
     )
 }
 
-/// So many sync Interests were sent, and so many parts are newly held.
+/// A settle: `syncs` sync Interests were sent, and `kept` parts became held.
 pub fn put_settle(out: &mut Vec<u8>, syncs: u64, kept: u64) -> Result<(), AllocError>
     ensures { Appends (settle_text syncs kept) out.old.items out.new.items result }
 {

@@ -19,12 +19,12 @@ pub(crate) enum Piece<'a> {
     Uri(&'a Name),
     // A word and a number, where there is one.
     Field(&'a str, Option<u64>),
-    // A label, an equals sign and a number, for each of both.
+    // For each label and its number: the label, an equals sign and the number.
     Counts(&'a [String], &'a [u64]),
 }
 
-// Each call appends words, each after a space. Where memory ran out, what was there stands in front
-// still.
+// Each call appends words, each after a space. Where memory ran out, the octets still begin with those from before the
+// call.
 
 pub(crate) fn put_pieces(out: &mut Vec<u8>, pieces: &[Piece<'_>]) -> Result<(), AllocError>
     ensures ok { OnOk result (out.new.items ≡ out.old.items ++ after_spaces (words_in pieces.now)) }

@@ -165,7 +165,8 @@ fn write_totals(
     )
 }
 
-/// What was sent, heard, tried and newly held over the script.
+/// The counts of the script: sync Interests sent and delivered, attempts, and parts that were received, with their
+/// octets.
 pub fn put_traffic(
     out: &mut Vec<u8>,
     syncs: u64,

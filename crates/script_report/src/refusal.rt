@@ -4,14 +4,14 @@ ghost use Rattle.script_report.specs.Refusals.{refusal_number, refusal_word};
 /// Why a line of a script, or of a live group's input, is refused.
 #[derive(Clone, Copy, Debug, PartialEq, Eq)]
 pub enum Refusal {
-    /// It is not in the grammar.
+    /// The line is not in the grammar.
     Syntax,
     /// A label is not that of a member, of a client where a client stands, or of a mirror where
     /// a mirror stands.
     UnknownLabel,
     /// A second group, or a label or node name that is there already.
     Duplicate,
-    /// It leaves a limit.
+    /// A size, a number or a count leaves its range.
     Limit,
     /// No sync Interest of this number was sent.
     NoSuchPacket,
@@ -19,11 +19,11 @@ pub enum Refusal {
     FetcherBusy,
     /// The fetcher claims no part.
     FetcherIdle,
-    /// The member has made as many publications as there are numbers.
+    /// The member has used all numbers of publications.
     NumbersSpent,
-    /// It stands before the group's line.
+    /// The line stands before the group's line.
     NoGroup,
-    /// A total would be passed.
+    /// A total would be exceeded.
     TooLarge,
     /// A declaration after an event or, in the input of a live group, a member after a publication.
     Late,
@@ -33,7 +33,7 @@ pub enum Refusal {
     NoSuchNumber,
     /// The member has no watcher of this number.
     NoSuchWatch,
-    /// It is none of the lines that a live group is given.
+    /// The line is none of the lines of a live group's input.
     NotLive,
 }
 

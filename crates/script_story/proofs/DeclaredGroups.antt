@@ -1,4 +1,4 @@
--- A member or a client more leaves a group one.
+-- A group with one more member or client is a group.
 use Rattle.std.proofs.Common.{◌≡◌, ◌∙◌, ℕ, ◌<◌, Bool, false, ◌||◌, List, [], ◌∷◌, ◌++◌, length, length-append}
 use Rattle.std.proofs.Common.{get_or, sym, ap, arith}
 use Rattle.std.specs.List.{All, list_any}

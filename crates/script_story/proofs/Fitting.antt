@@ -44,7 +44,7 @@ pub number_within : (label : List ℕ) (a b : List Party) → b ≡ a → has_la
     → party_number label b < length b
 number_within label a b same known = rw same (any_within (λ (p : Party). bytes_eq p.label label) a known)
 
--- the same of a mirror
+-- a label of a mirror has the number of a mirror
 pub mirror_within : (label : List ℕ) (mirrors : List (List ℕ)) → is_mirror label mirrors ≡ true
     → mirror_number label mirrors < length mirrors
 mirror_within label mirrors known = any_within (λ mirror. bytes_eq mirror label) mirrors known
@@ -56,7 +56,7 @@ mirror_placed label mirrors known =
     let inside : nat_lt n (length mirrors) ≡ true = lt-ltb n (length mirrors) (mirror_within label mirrors known) in
     ap (λ (b : Bool). if b then Some n else None) inside
 
--- so it has a place
+-- a label that is known has a place
 pub place_of_known : (label : List ℕ) (parties : List Party) → has_label label parties ≡ true
     → party_place label parties ≡ Some (party_number label parties)
 place_of_known label parties known =
@@ -392,7 +392,7 @@ client_fits octets label name key read =
     let words = written (form verb.Client).kinds values text.words text.texts in
     (node_name name words.1.0.0 text.ranges.1.0 words.1.0.1, key_fits key text.ranges.1.1.0)
 
--- So many fetch for a mirror, and so often at most.
+-- An `mfetch` line has 1 to 16 workers, and 1 to 16 tries.
 pub mirror_fits : (octets label : List ℕ) (workers tries loss : ℕ)
     → line_of octets ≡ Ok (Some (statement verb.Mfetch (Text label ∷ Number workers ∷ Number tries ∷ Number loss ∷ [])))
     → ((1 ≤ workers) × (workers ≤ 16)) × ((1 ≤ tries) × (tries ≤ 16))

@@ -1,4 +1,4 @@
--- The packets of the parts that members hold: they pass their checks, and entries tell what is in them.
+-- The packets of the parts that members hold: they pass their checks, and entries say what is in them.
 use Rattle.std.proofs.Common.{◌≡◌, ◌∙◌, inl, inr, ℕ, suc, ◌+◌, ◌^◌, ◌≤◌, ◌<◌, Bool, true, cond, not, ◌&&◌, List, []}
 use Rattle.std.proofs.Common.{◌∷◌, length}
 use Rattle.std.proofs.Common.{get_or, map, Option, Some, None, refl, sym, ap, subst, arith}

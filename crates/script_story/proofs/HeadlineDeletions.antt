@@ -131,7 +131,7 @@ blocking out w j process (Whole p) = λ i inside.
     one v (after_publish out v j (Offers (object_of p))) j _ refl refl i (omega (arith, kept, inside))
     ∙ one w v j _ refl refl i inside
 
--- An event that no member's deletion comes with.
+-- An event that makes no member delete.
 abbrev pub IsNoDeletionEvent : Event → Type 0
 IsNoDeletionEvent (Event.Order j read) = ⊥
 IsNoDeletionEvent (Event.Issue j client command) = IsNoDeletion command

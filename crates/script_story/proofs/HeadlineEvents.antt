@@ -1,5 +1,5 @@
--- What lines that are taken come to as events: what holds in the beginning, and stays so after each event, holds after
--- any lines; and after the first event the lines are a run of events.
+-- What lines that are taken are as events: what holds in the beginning, and after each event, holds after any lines;
+-- and after the first event the lines are a run of events.
 use Rattle.std.proofs.Common.{◌≡◌, ◌∙◌, ℕ, zero, suc, true, false, List, [], ◌∷◌, ◌++◌, length, get_or, set, Some}
 use Rattle.std.proofs.Common.{Ok, refl, sym, ap}
 use Rattle.std.proofs.Common.{subst}
@@ -57,7 +57,7 @@ pub record LeavesGroup (env : RunEnvironment) (s new : State) : Type 0 where
   pub members : new.declared.members ≡ s.declared.members
   pub begun : new.declared.events ≡ true
 
--- A line of watchers asks this of the watchers of one member.
+-- A line of watchers makes one call to the watchers of one member, and leaves the group as it finds it.
 pub record IsBeside (env : RunEnvironment) (s new : State) : Type 0 where
   pub leaves : LeavesGroup env s new
   pub m : ℕ
@@ -220,7 +220,7 @@ module _ (env : RunEnvironment) (P : World → Type 0) (begins : (out : Environm
       so_after next lines reports last taken.2 sound_next
       (so_next r.state line next.state sound sound_next (line_steps env r.state line report next.state here sound) so)
 
-  -- So it is after all lines that are taken first.
+  -- `P` holds of the group after any first lines of a script that are taken.
   pub so_from_start : (lines reports : List (List ℕ)) (r : Reached) → AreTakenFirst env lines reports r
       → P (group_at env r)
   so_from_start lines reports r taken =
@@ -271,7 +271,7 @@ none_more env s next last leaves rest = record {
       leaves.keys
       (subst (AreRun env last rest.events (outside_of env next.keys)) leaves.group (rest.taken, rest.group))
 
--- So do lines after the first event.
+-- Lines after the first event lead by events from one state to another.
 pub lines_run : (env : RunEnvironment) (r : Reached) (lines reports : List (List ℕ)) (last : Reached)
     → LinesAreTaken env r lines reports last → IsSoundState env r.state → r.state.declared.events ≡ true
     → RunsTo env r.state last.state
@@ -300,7 +300,7 @@ lines_run env r (line ∷ lines) (report ∷ reports) last taken sound begun =
 
 -- ---- watchers
 
--- What was asked of the watchers of a member between two states.
+-- The calls that were made to the watchers of a member between two states.
 pub record AreAsked (s last : State) (m : ℕ) : Type 0 where
   pub calls : List WatchCall
   pub are : watchers_at last m ≡ after_watch_calls calls (watchers_at s m)
@@ -340,7 +340,7 @@ asked_too env s next last m beside rest = go (set_at s.watchers beside.m m asked
         (now ∙ same ∙ ap (λ (n : ℕ). after_watch_call beside.call (watchers_at s n)) (sym at));
   }
 
--- After the first event lines ask watchers for nothing but this.
+-- After the first event lines change a member's watchers by calls alone.
 pub lines_ask : (env : RunEnvironment) (r : Reached) (lines reports : List (List ℕ)) (last : Reached)
     → LinesAreTaken env r lines reports last → IsSoundState env r.state → r.state.declared.events ≡ true → (m : ℕ)
     → AreAsked r.state last.state m

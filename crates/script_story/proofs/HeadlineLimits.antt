@@ -60,7 +60,8 @@ BeginsWithin (Delete name) = Unit {0}
 abbrev IsBegunWithin : Issued → Type 0
 IsBegunWithin i = BeginsWithin i.command
 
--- What was published is what members of the group can publish, and so is what insertions come to.
+-- What was published is what members of the group can publish, and insertions and the commands that were issued are
+-- within the limits.
 pub record IsLimited (g : GroupKeys) (w : World) : Type 0 where
   pub are : AreLogs g (logs w)
   pub insertions : (j : ℕ) → AreWithinLimits (member w j).processes
@@ -84,7 +85,7 @@ same_commands a b is =
 abbrev is_it : ℕ → ℕ × Command → Issued → Bool
 is_it j order i = eqb i.member j && (eqb i.client order.0 && is_equal_command i.command order.1)
 
--- One that was made before is within the limits as that was.
+-- A command that was issued before begins an insertion within the limits, as the issued one does.
 among : (j : ℕ) (order : ℕ × Command) (issued : List Issued) → All IsBegunWithin issued
     → list_any (is_it j order) issued ≡ true → BeginsWithin order.1
 among j order [] all found = absurd (false≢true found)
@@ -115,7 +116,7 @@ within_set (x ∷ xs) (suc i) m each h (suc j) = within_set xs i m (λ k. each (
 
 -- ---- insertions
 
--- one process more, or another under a number
+-- one more process, or another under its number, leaves all within the limits
 one_more : (ps : List (ℕ × Process)) (number : ℕ) (p : Process) → IsWithinLimits p → AreWithinLimits ps
     → AreWithinLimits (with_value nat_cmp number p ps)
 one_more ps number p is are n q found =
@@ -124,7 +125,7 @@ one_more ps number p is are n q found =
       go true h = let same : p ≡ q = cc in subst IsWithinLimits same is
       go false h = are n q h
 
--- What a block comes to is within the limits.
+-- What a block makes of its process is within the limits.
 abbrev ComesWithin : BlockState → Type 0
 ComesWithin Unknown = Unit {0}
 ComesWithin Already = Unit {0}

@@ -159,7 +159,7 @@ listed_stay env before printed r first lines reports last taken m pair there lis
 
 -- ---- what lines reach
 
--- What is reached after a line is one.
+-- The state that is reached after a line is unique.
 one_after : (env : RunEnvironment) (r : Reached) (line a b : List ℕ) (new other : Reached)
     → LineIsTaken env r line a new
     → LineIsTaken env r line b other → new ≡ other
@@ -201,7 +201,7 @@ number_of (p ∷ ps) (suc m) distinct inside =
     let apart : bytes_eq p.label label ≡ false = apart_at p.label ps m distinct.0 (omega (arith, inside)) in
     rw (apart, number_of ps m distinct.1 (omega (arith, inside))) (omega arith)
 
--- ---- where all are told of all
+-- ---- where all are informed of all
 
 abbrev known_by : World → ℕ → ℕ → ℕ
 known_by w m p = get_or (member w m).known p 0

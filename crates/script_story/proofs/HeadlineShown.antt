@@ -32,7 +32,7 @@ use Rattle.script_story.proofs.HeadlineChecks.{members_hold_checked}
 
 -- ---- a script that is done
 
--- All lines of it are taken, and its text is their reports.
+-- All lines of the script are taken, and the text is their reports.
 record AllTaken (env : RunEnvironment) (script : List (List ℕ)) (text : List ℕ) : Type 0 where
   reports : List (List ℕ)
   last : Reached

@@ -1,4 +1,4 @@
--- What lines of watchers and mirrors that are taken come to.
+-- What lines of watchers and mirrors that are taken do.
 use Rattle.std.proofs.Common.{◌≡◌, ℕ, ◌+◌, Bool, true, false, nat_le, List, [], ◌∷◌, length, map, refl}
 use Rattle.std.proofs.Common.{if◌then◌else◌, set, Option, Some, None}
 use Rattle.std.proofs.lemmas.List.{length-map, length-set}
@@ -30,7 +30,7 @@ accepted_report report printed new s h = cc
 pub accepted_state : (report printed : List ℕ) (new s : State) → accepted printed s ≡ accepted report new → new ≡ s
 accepted_state report printed new s h = cc
 
--- A line of watchers was taken: the group is as it was found, and this was asked of the watchers of one member.
+-- A line of watchers was taken: the group is as it was found, and one call was made to the watchers of one member.
 pub record IsWatched (env : RunEnvironment) (s : State) (d : Declared) (new : State) : Type 0 where
   pub m : ℕ
   pub call : WatchCall
@@ -89,7 +89,8 @@ reported_so env s d values report new is = cc
 
 -- ---- mirrors
 
--- A line of mirrors was taken: the group and the watchers are as they were found, and there are as many mirrors.
+-- A line of mirrors was taken: the group and the watchers are as they were found, and the number of mirrors is
+-- unchanged.
 pub record IsMirrored (env : RunEnvironment) (s : State) (d : Declared) (new : State) : Type 0 where
   pub mirrors : List Mirroring
   pub many : length mirrors ≡ length s.mirrors
@@ -147,7 +148,7 @@ listed_so env s d (Text l ∷ []) report new h =
     record { mirrors = s.mirrors; many = refl; next = accepted_state report _ new _ h }
 listed_so env s d values report new h = cc
 
--- There are as many after an event.
+-- An event doesn't change the number of mirrors.
 pub many_after : (w : World) (e : EventValue) (mirrors : List Mirroring)
     → length (mirrors_after w e mirrors) ≡ length mirrors
 many_after w (EventValue.Settle workers) mirrors = length-map mirrors (mirror_settles w)

@@ -1,4 +1,4 @@
--- What a line that is taken comes to, by what it states.
+-- What a line that is taken does, by what it states.
 use Rattle.std.proofs.Common.{◌≡◌, ℕ, List, [], map, Option, Some, None, Result, Ok, Err, refl, subst}
 use Rattle.group_model.specs.World.{Environment, World}
 use Rattle.group_model.specs.Steps.{after_event}
@@ -126,7 +126,7 @@ stated_taken env s line report new stated is (stating other d read after taken) 
     subst (λ (x : Stated). StatedTaken env s x report new) (one_stated (line_of line) other stated read is)
     (record { d = d; after = after; is = taken })
 
--- An event that is said was carried out.
+-- The event of a line that is taken was carried out.
 pub acted_stated : (env : RunEnvironment) (s : State) (d : Declared) (stated : Stated) (report : List ℕ) (new : State)
     → (o : Option EventValue) → stated_event d stated ≡ o → acted_if env s d o ≡ accepted report new
     → (e : EventValue) × (stated_event d stated ≡ Some e) × IsActed env s d e report new

@@ -55,7 +55,7 @@ module _ (w : World) (m : Mirroring) (group : IsSoundGroup w) (clear : NothingDe
       (subst (λ (pair : Pair). member_holds (member w q.publisher) (part_of pair t.part) ≡ true) (sym p.pair)
       (held t.part (subst (λ (o : Post). t.part ≤ last_part (shape_in o)) is.post p.counted)))
 
-  -- The mirror knows of it.
+  -- The mirror knows of each publication after the settle.
   known : (q : Publication) → IsIn (logs w) q
       → q.seq ≤ slice_index (join m.known (settled_vector w)) q.publisher
   known q is =

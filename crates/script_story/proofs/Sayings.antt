@@ -95,7 +95,7 @@ typed_of (kind ∷ kinds) (value ∷ values) of = absurd of.0
 
 -- ---- what a line that is read comes to
 
--- It is evaluated, and not reported as Syntax.
+-- The line is evaluated, and not refused as Syntax.
 abbrev IsBeyondGrammar : Verdict → Type 0
 IsBeyondGrammar (refused refusal.Syntax) = ⊥
 IsBeyondGrammar (refused why) = Unit {0}
@@ -185,7 +185,7 @@ line_beyond env s octets line is =
 
 -- ---- any line
 
--- Either the grammar refuses it as Syntax, or what it comes to is something else.
+-- A line is refused as Syntax where the grammar refuses it, or its verdict is another.
 either_way : (env : RunEnvironment) (s : State) (octets : List ℕ)
     → ((line_of octets ≡ Err line_fault.Syntax) × (evaluated env s octets ≡ refused refusal.Syntax))
     ⊎ IsBeyondGrammar (evaluated env s octets)

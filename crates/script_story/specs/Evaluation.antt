@@ -1,4 +1,4 @@
--- What is decided of a line, after those before it.
+-- The verdict on a line, by the state after the lines before it.
 use Rattle.std.specs.Prelude.{◌≡◌, ◌≢◌, ◌↔◌, ℕ, ◌+◌, Bool, List, [], ◌∷◌, ◌++◌, map, length, slice_index_or}
 use Rattle.std.specs.Prelude.{slice_set, Option, Some, None, is_some, Result, Ok, Err, unwrap_or, nat_le}
 use Rattle.std.specs.Prelude.{if◌then◌else◌}
@@ -50,7 +50,7 @@ pub record State : Type 0 where
   pub watchers : List (List Watching)
   pub mirrors : List Mirroring
 
--- The group before its line.
+-- The group before its `group` line: its name is empty, and it has no members or clients.
 abbrev pub no_group : GroupKeys
 no_group = record { name = []; members = no_nodes; clients = no_nodes }
 
@@ -58,8 +58,8 @@ no_group = record { name = []; members = no_nodes; clients = no_nodes }
 abbrev pub initial_state : State
 initial_state = record { declared = nothing_declared; keys = no_group; world = None; watchers = []; mirrors = [] }
 
--- The verdict on a line: it is refused; it brings what no member made; or it has a report, and others may follow. What
--- is left is that no row here is for it: there is no such line.
+-- The verdict on a line: it is refused; it brings octets that no member made; or it has a report, and others may
+-- follow. `not_evaluated` is the verdict on a line that no row here is for: there is no such line.
 pub data Verdict : Type 0 where
   refused : Refusal → Verdict
   foreign : Verdict
@@ -105,7 +105,7 @@ stepped out s d w e None = accepted (report_text (map party_label d.members) (ev
   mirrors = mirrors_after (after_event out w (group_event s.keys e)) e s.mirrors;
 })
 
--- The event is carried out where the lines declare so much.
+-- The verdict on the event `e`, where `d` is what the lines declare.
 unfoldable pub acted : RunEnvironment → State → Declared → EventValue → Verdict
 acted env s d e = stepped (outside_of env s.keys) s d (found_world env s) e
     (group.refusal (outside_of env s.keys) (found_world env s) (group_event s.keys e))
@@ -137,8 +137,8 @@ watched w s d m pattern =
     else accepted (watch_text (label_at (map party_label d.members) m) (length (watchers_at s m) + 1))
     (with_watchers w s d m (after_add pattern (catalogue_at w m) (watchers_at s m)))
 
--- What the member lists, the watcher asks for, and was not reported to it is reported now. There must be such a
--- watcher.
+-- The entries that the member lists, that its watcher `number` asks for and that were not reported to it are reported
+-- now. Without such a watcher the line is refused.
 abbrev pub told_at : World → State → Declared → ℕ → ℕ → Verdict
 told_at w s d m number =
     if is_some (watch_of number (watchers_at s m))
@@ -160,12 +160,12 @@ told_by w s d _ = not_evaluated
 
 -- ---- mirrors
 
--- Mirrors are so from now on. The line is an event, and so there is a world after it.
+-- The mirrors are `mirrors` from now on. The line is an event, and so there is a world after it.
 abbrev pub with_mirrors : World → State → Declared → List Mirroring → State
 with_mirrors w s d mirrors =
     record { declared = d; keys = s.keys; world = Some w; watchers = s.watchers; mirrors = mirrors }
 
--- One mirror is so from now on.
+-- Mirror `i` is `m` from now on.
 abbrev pub with_mirror : World → State → Declared → ℕ → Mirroring → State
 with_mirror w s d i m = with_mirrors w s d (slice_set s.mirrors i m)
 
@@ -211,15 +211,15 @@ listed_by w s d _ = not_evaluated
 
 -- ---- lines
 
--- A group of this name that nobody is in.
+-- A group of this name without members and clients.
 abbrev pub group_named : List Component → GroupKeys
 group_named name = record { name = name; members = no_nodes; clients = no_nodes }
 
--- One member more, or one client more.
+-- The group with one member more.
 abbrev pub with_member_too : List Component → List ℕ → GroupKeys → GroupKeys
 with_member_too node key keys = record keys { members = with_node node key keys.members }
 
--- One client more.
+-- The group with one client more.
 abbrev pub with_client_too : List Component → List ℕ → GroupKeys → GroupKeys
 with_client_too node key keys = record keys { clients = with_node node key keys.clients }
 
@@ -283,7 +283,7 @@ acted_if env s d None = not_evaluated
 unfoldable pub acted_by : RunEnvironment → State → Declared → Stated → Verdict
 acted_by env s d line = acted_if env s d (stated_event d line)
 
--- What a line does that nothing before it refuses.
+-- The verdict on a line that neither its reading nor what was declared refuses.
 abbrev pub taken_by : Verb → RunEnvironment → State → Declared → Stated → Verdict
 taken_by verb.Group env s d line = with_group s d line.values
 taken_by verb.Member env s d line = declaring_member s d line.values
@@ -296,7 +296,7 @@ taken_by verb.Mfetch env s d line = fetched_by env (found_world env s) s d line.
 taken_by verb.Mcatalogue env s d line = listed_by (found_world env s) s d line.values
 taken_by _ env s d line = acted_by env s d line
 
--- A line that may stand where it does.
+-- The verdict on a line that may stand where it does.
 unfoldable pub line_taken : RunEnvironment → State → Declared → Stated → Verdict
 line_taken env s d line = taken_by line.verb env s d line
 
@@ -310,17 +310,17 @@ check_refused check_fault.Limit = refused refusal.Limit
 check_refused check_fault.TooLarge = refused refusal.TooLarge
 check_refused check_fault.NoMemory = not_evaluated
 
--- A line, by what its declarations say.
+-- The verdict on a line, by the result of testing it against what was declared.
 abbrev pub checked : RunEnvironment → State → Stated → Result Declared CheckFault → Verdict
 checked env s line (Ok d) = line_taken env s d line
 checked env s line (Err fault) = check_refused fault
 
--- The verdict on a line that octets are.
+-- The verdict on a line that was read.
 unfoldable pub evaluated_line : RunEnvironment → State → Stated → Verdict
 evaluated_line env s line = checked env s line (after_line s.declared line)
 
--- What octets are that no line is: the order of the tests is that of reading, then of what was declared, then of
--- the group.
+-- The verdict on octets, by what they are read as. The order of the tests is that of reading, then of what was
+-- declared, then of the group.
 abbrev pub read : RunEnvironment → State → Result (Option Stated) LineFault → Verdict
 read env s (Ok (Some line)) = evaluated_line env s line
 read env s (Ok None) = accepted [] s
@@ -334,7 +334,7 @@ evaluated env s octets = read env s (line_of octets)
 
 -- ---- what is promised
 
--- No line is left unjudged.
+-- Every line is evaluated.
 abbrev pub EachLineIsEvaluated : Type 0
 EachLineIsEvaluated = (env : RunEnvironment) (s : State) (octets : List ℕ) → evaluated env s octets ≢ not_evaluated
 

@@ -47,7 +47,7 @@ LinesAreTaken env r (line ∷ lines) (report ∷ reports) last =
     (next : Reached) × LineIsTaken env r line report next × LinesAreTaken env next lines reports last
 LinesAreTaken env r lines reports last = ⊥
 
--- The same of the first lines of a script.
+-- The first lines of a script are taken one after the other, with these reports, and `last` is reached after them.
 abbrev pub AreTakenFirst : RunEnvironment → List (List ℕ) → List (List ℕ) → Reached → Type 0
 AreTakenFirst env lines reports last = LinesAreTaken env nothing_reached lines reports last
 
@@ -74,8 +74,8 @@ EndsBy number (verdict.refused why) text ending =
 EndsBy number foreign text ending = (text ≡ foreign_text number) × (ending ≡ Foreign number)
 EndsBy number not_evaluated text ending = ⊥
 
--- How it ends with these lines left: there are none, or the first of them is refused or foreign, and its number is
--- written.
+-- How a run ends where these lines are not taken: there are none, or the first of them is refused or foreign, and its
+-- number is written.
 abbrev pub EndsWith : RunEnvironment → Reached → List (List ℕ) → List ℕ → Ending → Type 0
 EndsWith env r [] text ending = (text ≡ []) × (ending ≡ Done)
 EndsWith env r (line ∷ others) text ending = EndsBy (r.lines + 1) (evaluated_next env r line) text ending
@@ -99,7 +99,7 @@ pub record IsReportOf (env : RunEnvironment) (r : Reached) (script : List (List 
 
 -- ---- the group that is reached
 
--- With no event yet its members have nothing.
+-- The group that is reached. Before the first event its members have nothing.
 abbrev pub group_at : RunEnvironment → Reached → World
 group_at env r = found_world env r.state
 
@@ -139,7 +139,8 @@ pub record IsToBeListed (w : World) (m : ℕ) (pair : Pair) : Type 0 where
   pub had : (pair.0 ≡ m) ⊎ HoldsAllOf w m pair
   pub not_withdrawn : HoldsNoWithdrawal (logs w) (member w m) pair
 
--- Entries list just that, each once under its publisher and number, in order; and each entry is that of its object.
+-- The entries list exactly the objects that the catalogue of member `m` is to list, each once under its publisher and
+-- number, in order; and each entry is that of its object.
 pub record ListExactly (w : World) (m : ℕ) (entries : List Entry) : Type 0 where
   pub exactly : (pair : Pair) → (lists pair entries ≡ true) ↔ IsToBeListed w m pair
   pub in_order : IsCatalogue entries
@@ -189,7 +190,7 @@ only_prints verb.Summary = true
 only_prints verb.Traffic = true
 only_prints other = false
 
--- So does a line that states nothing.
+-- The line changes nothing of the group: it states nothing, or `only_prints` is true of its verb.
 abbrev pub changes_nothing : Result (Option Stated) LineFault → Bool
 changes_nothing (Ok None) = true
 changes_nothing (Ok (Some stated)) = only_prints stated.verb
@@ -206,7 +207,7 @@ deletes verb.Delete = true
 deletes verb.Order = true
 deletes other = false
 
--- The line is no deletion.
+-- The line can delete nothing.
 abbrev pub deletes_nothing : Result (Option Stated) LineFault → Bool
 deletes_nothing (Ok None) = true
 deletes_nothing (Ok (Some stated)) = not (deletes stated.verb)
@@ -246,7 +247,7 @@ PrintsCatalogues = (env : RunEnvironment) (lines reports : List (List ℕ)) (r :
     → (label report : List ℕ) (new : Reached) → IsCatalogueLine env r label report new
     → IsCatalogueOf (group_at env r) (labels_at r) label report
 
--- After any lines that change nothing it prints the catalogue as it was before them.
+-- After any lines that change nothing a `catalogue` line prints the catalogue as it was before them.
 abbrev pub PrintsLater : Type 0
 PrintsLater = (env : RunEnvironment) (lines reports : List (List ℕ)) (r : Reached) → AreTakenFirst env lines reports r
     → (between printed : List (List ℕ)) (later : Reached) → LinesAreTaken env r between printed later
@@ -263,7 +264,8 @@ pub record IsJoined (env : RunEnvironment) (r : Reached) : Type 0 where
       → (label report : List ℕ) (new : Reached) → IsCatalogueLine env later label report new
       → report ≡ printed_entries (labels_at r) label (join_of (logs (group_at env r)))
 
--- So it is right after a `settle` line, where nothing is deleted.
+-- Right after a `settle` line, where nothing is deleted, each member's catalogue is the join of all publications, and
+-- `catalogue` lines print it.
 abbrev pub SettlesJoin : Type 0
 SettlesJoin = (env : RunEnvironment) (lines reports : List (List ℕ)) (r : Reached) → AreTakenFirst env lines reports r
     → (report : List ℕ) (new : Reached) → IsSettleLine env r report new → NothingDeleted (group_at env new)

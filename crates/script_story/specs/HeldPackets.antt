@@ -30,11 +30,11 @@ pub record PassesItsChecks (g : GroupKeys) (logs : Logs) (t : Part) : Type 0 whe
   pub passes : IsOk (ring_verdict (published_want g logs t) g.members.ring octets)
   pub listed : 0 < t.part → ListsDigest (publisher_at g t.publisher) t.seq (post_at logs (pair_of t)) t.part octets
 
--- So does that of each part that a member holds.
+-- The packet of each part that member `m` holds passes its checks.
 abbrev pub HoldsChecked : GroupKeys → World → ℕ → Type 0
 HoldsChecked g w m = (t : Part) → member_holds (member w m) t ≡ true → PassesItsChecks g (logs w) t
 
--- So it is with every member, whatever lines are taken.
+-- Whatever lines are taken, the packet of each part that a member holds passes its checks.
 abbrev pub MembersHoldChecked : Type 0
 MembersHoldChecked = (env : RunEnvironment) (lines reports : List (List ℕ)) (r : Reached)
     → AreTakenFirst env lines reports r
@@ -46,9 +46,9 @@ MembersHoldChecked = (env : RunEnvironment) (lines reports : List (List ℕ)) (r
 abbrev pub dumped : GroupKeys → World → ℕ → Part → Option (List ℕ)
 dumped g w m t = if member_holds (member w m) t then published_packet g (logs w) t else None
 
--- The contents of the segments of a publication that has so many, as they are dumped, in order. Part 0 is the record.
--- The index packets come next, `k` of them where `k` is `index_packets segments`, and segment `i`, counted from 0, is
--- part `k + 1 + i`.
+-- The contents of a publication's segments, of which there are `segments`, as they are dumped, in order. Part 0 is the
+-- record. The index packets come next, `k` of them where `k` is `index_packets segments`, and segment `i`, counted from
+-- 0, is part `k + 1 + i`.
 abbrev pub dumped_contents : GroupKeys → World → ℕ → Pair → ℕ → List (Option (List ℕ))
 dumped_contents g w m pair segments =
     map (λ x. option_and_then content_in (dumped g w m (part_of pair x)))
@@ -58,15 +58,15 @@ dumped_contents g w m pair segments =
 abbrev pub all_there : List (List ℕ) → List (Option (List ℕ))
 all_there contents = map (λ content. Some content) contents
 
--- An entry says what the dumped segments have: each of them is there, and their contents joined have so many octets
--- and this digest.
+-- The entry `e` says what the dumped segments have: each of them is there, and their joined contents have the entry's
+-- number of octets and its digest.
 pub record ReportsOfDumped (g : GroupKeys) (w : World) (m : ℕ) (e : Entry) : Type 0 where
   pub contents : List (List ℕ)
   pub there : dumped_contents g w m (publication_of e) e.segments ≡ all_there contents
   pub octets : e.octets ≡ length (concat contents)
   pub digest : e.digest ≡ sha256 (concat contents)
 
--- So does each entry of every catalogue, whatever lines are taken.
+-- Whatever lines are taken, each entry of a member's catalogue says what the dumped segments have.
 abbrev pub EntriesTellOfDumped : Type 0
 EntriesTellOfDumped = (env : RunEnvironment) (lines reports : List (List ℕ)) (r : Reached)
     → AreTakenFirst env lines reports r

@@ -12,9 +12,9 @@ use Rattle.script_story.specs.Evaluation.{RunEnvironment}
 use Rattle.script_story.specs.ScriptRun.{Reached}
 use Rattle.script_story.specs.Headline.{AreTakenFirst, LineIsTaken}
 
--- A report is empty, or it names only members that have one of these labels: in the report of an event, of a new
--- watcher of a member, or of a watcher's news; or it names a mirror that has one of its labels: what it hears, fetches
--- or lists, and that only members published.
+-- A report is empty, or each member that it names has one of `labels`, and each mirror one of `mirrors`. Members are
+-- named in the reports of events, of new watchers and of watchers' news. Mirrors are named where a report says what
+-- they hear, fetch or list; what they list only members published.
 pub data NamesOnlyMembers (labels mirrors : List (List ℕ)) (report : List ℕ) : Type 0 where
   silent : report ≡ [] → NamesOnlyMembers labels mirrors report
   tells : (printed : ReportValue) → report ≡ report_text labels printed → NamesInRange (length labels) printed
@@ -31,7 +31,7 @@ pub data NamesOnlyMembers (labels mirrors : List (List ℕ)) (report : List ℕ)
       → is_mirror label mirrors ≡ true → All (λ e. e.publisher < length labels) entries
       → NamesOnlyMembers labels mirrors report
 
--- So does the report of each line that is taken, by the labels that lines declared.
+-- The report of each line that is taken names only members and mirrors that lines declared.
 abbrev pub ReportsNameOnlyMembers : Type 0
 ReportsNameOnlyMembers = (env : RunEnvironment) (lines reports : List (List ℕ)) (r : Reached)
     → AreTakenFirst env lines reports r → (line report : List ℕ) (new : Reached)

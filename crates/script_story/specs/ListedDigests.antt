@@ -11,13 +11,13 @@ use Rattle.repo_object.specs.Publication.RecordSays.{Lists, WithdrawsNumber}
 use Rattle.repo_object.specs.Verdict.{index_in, stated_in}
 use Rattle.repo_object.specs.Wants.{listed_in}
 
--- Those of a record. That of a withdrawal lists none.
+-- The digests that a record lists. The record of a withdrawal lists none.
 abbrev pub digests_stated : Option RecordSays → List (List ℕ)
 digests_stated (Some (Lists listed)) = listed.digests
 digests_stated (Some (WithdrawsNumber seq)) = []
 digests_stated None = []
 
--- Those of part `x`, which is the record or an index packet.
+-- The digests that part `x` lists, which is the record or an index packet.
 abbrev pub listed_digests : Publisher → ℕ → Post → ℕ → List (List ℕ)
 listed_digests by seq post x =
     if x == 0 then digests_stated (option_and_then stated_in (packet_at by seq post 0))

@@ -26,7 +26,7 @@ pub record IsLeftToList (before after : World) (m : ℕ) (pair : Pair) : Type 0 
   pub undeleted : has_deleted (member after m) pair ≡ false
   pub not_withdrawn : HoldsNoWithdrawal (logs after) (member after m) pair
 
--- Right after a `settle` line each member lists just that.
+-- Right after a `settle` line each member lists exactly the objects for which `IsLeftToList` holds.
 abbrev pub SettledListWhatIsHeld : Type 0
 SettledListWhatIsHeld = (env : RunEnvironment) (lines reports : List (List ℕ)) (r : Reached)
     → AreTakenFirst env lines reports r → (report : List ℕ) (new : Reached) → IsSettleLine env r report new
@@ -34,14 +34,16 @@ SettledListWhatIsHeld = (env : RunEnvironment) (lines reports : List (List ℕ))
     → (lists pair (catalogue_at (group_at env new) m) ≡ true)
     ↔ IsLeftToList (group_at env r) (group_at env new) m pair
 
--- The same in the words of the join: the object belongs in the join of all publications, so that no publication
--- withdraws it.
+-- What a member is to list after a settle, in the words of the join: an object in the join of all publications, so that
+-- no publication withdraws it, of which the members held every part between them before the settle, and that the member
+-- hasn't deleted.
 pub record IsLeftOfJoin (before after : World) (m : ℕ) (pair : Pair) : Type 0 where
   pub joins : BelongsInJoin (logs after) pair
   pub held : IsHeldAmong before pair
   pub undeleted : has_deleted (member after m) pair ≡ false
 
--- That is what each member lists too: no withdrawal is ever deleted, so each of them reaches all in a settle.
+-- Right after a `settle` line each member lists exactly the objects for which `IsLeftOfJoin` holds. No withdrawal is
+-- ever deleted, so each of them reaches all members in a settle.
 abbrev pub SettledListWhatIsLeft : Type 0
 SettledListWhatIsLeft = (env : RunEnvironment) (lines reports : List (List ℕ)) (r : Reached)
     → AreTakenFirst env lines reports r → (report : List ℕ) (new : Reached) → IsSettleLine env r report new
@@ -63,8 +65,8 @@ ListedStay = (env : RunEnvironment) (before printed : List (List ℕ)) (r : Reac
 
 -- ---- where all are informed of all
 
--- One of these lines delivers to a member, by its label, a sync Interest that reports all that another publishes in
--- them: in the place of that one its vector has the number of the last publication.
+-- One of `lines` delivers to member `m`, by its label, a sync Interest whose vector has for member `p` the number of
+-- the last publication that `p` makes in these lines.
 pub record IsInformedOfAll (env : RunEnvironment) (lines : List (List ℕ)) (last : Reached) (m p : ℕ) : Type 0 where
   pub before : List (List ℕ)
   pub line : List ℕ

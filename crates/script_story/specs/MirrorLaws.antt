@@ -46,14 +46,14 @@ only_shows verb.Mdeliver = false
 only_shows verb.Mfetch = false
 only_shows form = only_prints form
 
--- So does a line that states nothing.
+-- The line changes nothing of the group and its mirrors: it states nothing, or `only_shows` is true of its verb.
 abbrev pub shows_alone : Result (Option Stated) LineFault → Bool
 shows_alone (Ok None) = true
 shows_alone (Ok (Some stated)) = only_shows stated.verb
 shows_alone (Err fault) = false
 
--- After a `settle` line, where nothing is deleted and the lines between change nothing of group and mirrors, these are
--- just the objects of the join of all publications that the mirror's pattern accepts.
+-- After a `settle` line, where nothing is deleted and the lines between change nothing of group and mirrors, an
+-- `mcatalogue` line prints exactly the objects of the join of all publications that the mirror's pattern accepts.
 abbrev pub MirrorsListTheirJoin : Type 0
 MirrorsListTheirJoin = (env : RunEnvironment) (before : List (List ℕ)) (settle : List ℕ) (workers : ℕ)
     (between reports : List (List ℕ)) (r : Reached) → AreTakenFirst env (before ++ settle ∷ between) reports r

@@ -29,12 +29,12 @@ pub record Mirroring : Type 0 where
   pub holds : Part → Bool
   pub tries : Part → ℕ  -- how often it tried each part, except records of objects that its pattern doesn't accept
 
--- A mirror of a group of so many members, which knows of nothing.
+-- A mirror of a group of `members` members, which knows of no publication.
 abbrev pub mirror_begins : ℕ → Pattern → Mirroring
 mirror_begins members pattern =
     record { pattern = pattern; known = replicate members 0; holds = λ t. false; tries = λ t. 0 }
 
--- It hears a vector.
+-- The mirror after it heard the vector `printed`.
 abbrev pub mirror_hears : List ℕ → Mirroring → Mirroring
 mirror_hears printed m = record m { known = join m.known printed }
 
@@ -47,7 +47,7 @@ mirror_as m = record {
   tries = tries_of m.attempts;
 }
 
--- The mirror of a number, from 0 on.
+-- The mirror under a number that no mirror has.
 abbrev pub no_mirroring : Mirroring
 no_mirroring = mirror_begins 0 (record { publisher = None; prefix = [] })
 
@@ -57,17 +57,18 @@ mirror_of mirrors i = slice_index_or mirrors i no_mirroring
 
 -- ---- what it wants
 
--- A part besides the record, which a held part lists, of an object that the pattern accepts.
+-- A held part lists the part `t`, and the pattern accepts its object.
 abbrev pub is_asked_for : Logs → Mirroring → Part → Bool
 is_asked_for ls m t = m.holds (parent (shape_at ls (pair_of t)) t) && is_for m.pattern ls (pair_of t)
 
--- A record, or such a part, of a known publication of a publisher that is asked, and that isn't held.
+-- The mirror wants the part `t`: it knows of the publication, its pattern is for the publisher, it doesn't hold the
+-- part, and the part is a record or `is_asked_for` is true of it.
 abbrev pub is_wanted_by : Logs → Mirroring → Part → Bool
 is_wanted_by ls m t =
     nat_le t.seq (slice_index m.known t.publisher)
     && (is_publisher m.pattern.publisher t.publisher && ((t.part == 0 || is_asked_for ls m t) && not (m.holds t)))
 
--- Of all parts that there are, in order. A fetch asks for the least 4,096 of them.
+-- The parts that the mirror wants, in order. A fetch asks for the least 4,096 of them.
 abbrev pub wanted_by : World → Mirroring → List Part
 wanted_by w m = filter (is_wanted_by (logs w) m) (all_parts (logs w))
 
@@ -77,16 +78,16 @@ asked_by w m = take 4096 (wanted_by w m)
 
 -- ---- what it fetches of members
 
--- Which attempts the network passes, where to it the mirror's number is by 16 higher.
+-- Which attempts the network passes. In `passes` the mirror's number is greater by 16.
 module _ (passes : ℕ → ℕ → ℕ → ℕ → ℕ → ℕ → Bool) (w : World) (i tries loss : ℕ) where
-  -- The first of so many attempts that the network passes, where a member holds the part.
+  -- The first of `tries` attempts that the network passes, where a member holds the part.
   abbrev pub attempt_of : Mirroring → Part → Option ℕ
   attempt_of m t =
       if someone_holds w.members t
       then find (λ n. passes (16 + i) t.publisher t.seq t.part (m.tries t + n) loss) (numbers_from 1 tries)
       else None
 
-  -- The parts that come.
+  -- The parts that are received.
   abbrev pub gets : Mirroring → List Part
   gets m = filter (λ t. is_some (attempt_of m t)) (asked_by w m)
 
@@ -104,7 +105,7 @@ module _ (passes : ℕ → ℕ → ℕ → ℕ → ℕ → ℕ → Bool) (w : Wo
   counted m =
       filter (λ t. is_for m.pattern (logs w) (pair_of t) || not (is_some (attempt_of m t))) (asked_by w m)
 
-  -- What was fetched is held too.
+  -- The mirror after a fetch: it holds the received parts too, and the attempts are counted.
   abbrev pub mirror_fetches : Mirroring → Mirroring
   mirror_fetches m = record m {
     holds = λ t. contains part_cmp (gets m) t || m.holds t;
@@ -121,7 +122,7 @@ is_gained w m t =
     && (is_publisher m.pattern.publisher t.publisher
     && ((t.part == 0 || is_for m.pattern (logs w) (pair_of t)) && someone_holds w.members t))
 
--- It knows what it and all members know, and holds those parts too.
+-- The mirror after a settle: it knows of what it and all members knew of, and holds the parts that it gains too.
 abbrev pub mirror_settles : World → Mirroring → Mirroring
 mirror_settles w m =
     record m { known = join m.known (settled_vector w); holds = λ t. m.holds t || is_gained w m t }
@@ -139,7 +140,7 @@ is_listed_by publications m p =
     is_object_accepted m.pattern p
     && (list_all m.holds (parts_in p) && not (is_withdrawn_to publications m (pair_in p)))
 
--- Those, in order.
+-- The entries of the objects that the mirror lists, in order.
 abbrev pub mirrored_entries : World → Mirroring → List Entry
 mirrored_entries w m =
     map published_entry (filter (is_listed_by (published (logs w)) m) (published (logs w)))

@@ -53,7 +53,8 @@ packet_fault_text (packet.Critical typ at) = codes "Critical " ++ (decimal typ +
 packet_fault_text (packet.Missing named) = codes "Missing " ++ field_word named
 packet_fault_text (packet.BadField named at) = codes "BadField " ++ (field_word named ++ (codes " " ++ decimal at))
 
--- A member is given by its label. No octets are refused when memory runs out, and no report has a text for it.
+-- Why a vector is refused. A member is given by its label. No octets are refused when memory runs out, and no report
+-- has a text for it.
 abbrev pub vector_fault_text : List (List ℕ) → VectorFault → List ℕ
 vector_fault_text labels (vector.BadVector at) = codes "BadVector " ++ decimal at
 vector_fault_text labels (vector.NumberTooLarge m number) =
@@ -71,7 +72,7 @@ sync_refusal_text labels sync.BadSignature = codes "BadSignature"
 sync_refusal_text labels (sync.Vector fault) = vector_fault_text labels fault
 sync_refusal_text labels sync.NoMemory = []
 
--- Why octets are refused as one.
+-- Why octets are refused as a sync Interest.
 abbrev pub hear_refusal_text : List (List ℕ) → HearRefusal → List ℕ
 hear_refusal_text labels (hear.Sync refusal) = sync_refusal_text labels refusal
 hear_refusal_text labels (hear.OwnNumberAhead own printed) = codes "OwnNumberAhead"

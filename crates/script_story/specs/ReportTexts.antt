@@ -16,7 +16,7 @@ use Rattle.bench_world.specs.EventValues.{ReportValue}
 use Rattle.script_report.specs.Labels.{label_at, publisher_label}
 use Rattle.script_story.specs.RefusalTexts.{hear_refusal_text, part_refusal_text, packet_fault_text}
 
--- One line for each event, and where nothing is reported there is none.
+-- The text of an event's report. It is empty where nothing is reported.
 abbrev pub report_text : List (List ℕ) → ReportValue → List ℕ
 report_text labels ReportValue.Nothing = []
 report_text labels (ReportValue.Publish m seq segments sync) = publish_text (label_at labels m) seq segments sync
@@ -73,13 +73,13 @@ report_text labels (ReportValue.Traffic syncs delivered attempts parts octets) =
 
 -- ---- the kinds of what is reported, as the code goes through them
 
--- A command that came as octets, or a deletion.
+-- The report is that of an `order` or a `delete` line.
 abbrev pub of_commands : ReportValue → Bool
 of_commands (ReportValue.Order m code process inserted deleted) = true
 of_commands (ReportValue.Delete m code process inserted deleted) = true
 of_commands printed = false
 
--- One of these, or an insertion, its status or a block of it.
+-- The report is one of `of_commands`, or that of an `insert`, `status` or `block` line.
 abbrev pub of_insertions : ReportValue → Bool
 of_insertions (ReportValue.Insert m code process inserted deleted) = true
 of_insertions (ReportValue.Status m code process inserted deleted) = true
@@ -89,7 +89,7 @@ of_insertions (ReportValue.Block200 m) = true
 of_insertions (ReportValue.BlockPublished m seq sync) = true
 of_insertions printed = of_commands printed
 
--- One of these, or a fetch, or a packet that comes or is asked for.
+-- The report is one of `of_insertions`, or that of a `fetch`, `dump`, `hear`, `ask` or `feed` line.
 abbrev pub of_packets : ReportValue → Bool
 of_packets (ReportValue.Fetch m planned kept attempts) = true
 of_packets (ReportValue.DumpHex m octets) = true
@@ -104,7 +104,7 @@ of_packets (ReportValue.FeedKept m f) = true
 of_packets (ReportValue.FeedRefused m f refusal) = true
 of_packets printed = of_insertions printed
 
--- One of these, or a part that is claimed.
+-- The report is one of `of_packets`, or that of a `claim`, `lose` or `answer` line.
 abbrev pub of_parts : ReportValue → Bool
 of_parts (ReportValue.ClaimPart m f publisher seq x) = true
 of_parts (ReportValue.ClaimNone m f) = true
@@ -113,7 +113,7 @@ of_parts (ReportValue.AnswerKept m f) = true
 of_parts (ReportValue.AnswerNone m f) = true
 of_parts printed = of_packets printed
 
--- One of these, or what members have, or of the whole group.
+-- The report is one of `of_parts`, or that of a `vector`, `catalogue`, `settle`, `summary` or `traffic` line.
 abbrev pub of_group : ReportValue → Bool
 of_group (ReportValue.Vector m members numbers) = true
 of_group (ReportValue.Catalogue m count entries) = true
@@ -122,13 +122,13 @@ of_group (ReportValue.Summary members entries segments octets) = true
 of_group (ReportValue.Traffic syncs delivered attempts parts octets) = true
 of_group printed = of_parts printed
 
--- The line of what is of a kind, and nothing of anything else.
+-- The text of a report that `is_of` is true of, and an empty text for any other.
 abbrev pub report_text_if : (ReportValue → Bool) → List (List ℕ) → ReportValue → List ℕ
 report_text_if is_of labels printed = if is_of printed then report_text labels printed else []
 
 -- ---- what is reported to watchers, and what mirrors list
 
--- The entries that are news to the watcher that a number may have.
+-- The entries that are news to the watcher, if there is one.
 abbrev pub news_in : Option Watching → List Entry → List Entry
 news_in None entries = []
 news_in (Some watching) entries = filter (is_news watching) entries

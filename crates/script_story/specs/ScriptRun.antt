@@ -31,7 +31,7 @@ pub record Reached : Type 0 where
 abbrev pub nothing_reached : Reached
 nothing_reached = record { lines = 0; octets = 0; printed = 0; state = initial_state }
 
--- The same after one more line, which had this report.
+-- What is reached after `r` and one more line, by the line's report and the state after it.
 abbrev pub reached_after : Reached → List ℕ → List ℕ → State → Reached
 reached_after r line report next = record {
   lines = r.lines + 1;
@@ -42,11 +42,11 @@ reached_after r line report next = record {
 
 -- ---- the next line
 
--- A script has so many lines and octets at most. A line feed belongs to the line that it ends.
+-- A script has at most `script_lines` lines and `script_octets` octets. A line feed belongs to the line that it ends.
 abbrev pub is_within_script : Reached → List ℕ → Bool
 is_within_script r line = nat_lt r.lines script_lines && nat_le (r.octets + length line) script_octets
 
--- A report has so many octets at most, a `refused` or `foreign` line not among them.
+-- A report has at most `report_octets` octets, those of a `refused` or `foreign` line not counted.
 abbrev pub within_report : Reached → Verdict → Verdict
 within_report r (accepted report next) =
     if nat_le (r.printed + length report) report_octets then accepted report next else verdict.refused TooLarge
@@ -79,8 +79,8 @@ abbrev pub ended : State → List ℕ → Ending → ScriptRun
 ended s text ending =
     record { text = text; ending = ending; keys = s.keys; world = s.world; mirrors = s.mirrors }
 
--- The run of a line and of those after it. A line that is refused or foreign ends it. One that no row evaluates would
--- end it as refused under 0, which is the number of no refusal.
+-- The run of a line with this verdict and of the lines after it. A line that is refused or foreign ends the run. A line
+-- that no row evaluates would end it as refused under 0, which is the number of no refusal.
 abbrev pub run_of_line : (Reached → ScriptRun) → Reached → List ℕ → Verdict → ScriptRun
 run_of_line others r line (accepted report next) = after_text report (others (reached_after r line report next))
 run_of_line others r line (verdict.refused why) =
@@ -88,7 +88,7 @@ run_of_line others r line (verdict.refused why) =
 run_of_line others r line foreign = ended r.state (foreign_text (r.lines + 1)) (Foreign (r.lines + 1))
 run_of_line others r line not_evaluated = ended r.state [] (Refused (r.lines + 1) 0)
 
--- The run of lines that follow those so far.
+-- The run of lines that follow the lines of `r`.
 unfoldable pub run_from : RunEnvironment → Reached → List (List ℕ) → ScriptRun
 run_from env r [] = ended r.state [] Done
 run_from env r (line ∷ others) =
@@ -102,11 +102,11 @@ run_of env input = run_from env nothing_reached (lines input)
 abbrev pub plain_run : List ℕ → Ending → ScriptRun
 plain_run text ending = record { text = text; ending = ending; keys = no_group; world = None; mirrors = [] }
 
--- The input as its first line is refused.
+-- The run of an input whose first line is refused.
 abbrev pub refused : Refusal → ScriptRun
 refused why = plain_run (refusal_text 1 why) (Refused 1 (refusal_number why))
 
--- A script reports this text, and ends so.
+-- The script's report is this text, and the script has this ending.
 pub record Reports (env : RunEnvironment) (script text : List ℕ) (ending : Ending) : Type 0 where
   pub text_is : (run_of env script).text ≡ text
   pub ending_is : (run_of env script).ending ≡ ending

@@ -42,8 +42,8 @@ CatalogueLinesShow = (env : RunEnvironment) (input : List ℕ) (before : List (L
     (label : List ℕ) → (run_of env input).ending ≡ Done → lines input ≡ before ++ line ∷ others
     → Says line (statement verb.Catalogue (Text label ∷ [])) → ShowsCatalogue env before label (run_of env input).text
 
--- Where the line stands after a `settle` line, no line before that can have deleted anything, and the lines between
--- them change nothing, it is the join.
+-- Where the `catalogue` line stands after a `settle` line, no line before the `settle` line can have deleted anything,
+-- and the lines between them change nothing, the catalogue is the join.
 abbrev pub SettleLinesShow : Type 0
 SettleLinesShow = (env : RunEnvironment) (input : List ℕ) (before : List (List ℕ)) (settle : List ℕ) (workers : ℕ)
     (between : List (List ℕ)) (line : List ℕ) (others : List (List ℕ)) (label : List ℕ)

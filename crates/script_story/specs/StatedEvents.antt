@@ -11,12 +11,12 @@ use Rattle.ndn_name.specs.Names.{Component}
 use Rattle.repo_watch.specs.declared.pattern.Pattern.{Pattern}
 use Rattle.bench_world.specs.EventValues.{EventValue}
 
--- The number of the first member or client with this label. Where nobody has it this is nobody's number, which is how
--- many there are.
+-- The number of the first member or client in `parties` with this label. Where none has it, it is their number, which
+-- no party has.
 abbrev pub party_number : List ℕ → List Party → ℕ
 party_number label parties = position_or_len (λ (p : Party). bytes_eq p.label label) parties
 
--- The same of mirrors, by their labels.
+-- The number of the first mirror with this label. Where none has it, it is their number, which no mirror has.
 abbrev pub mirror_number : List ℕ → List (List ℕ) → ℕ
 mirror_number label mirrors = position_or_len (λ mirror. bytes_eq mirror label) mirrors
 
@@ -31,7 +31,7 @@ pattern_for publisher prefix = record { publisher = publisher; prefix = prefix }
 
 -- ---- what lines state, by their kinds
 
--- Of a line with a command's octets, and of a deletion; none of any other line.
+-- The event that an `order` or a `delete` line states; none of any other line.
 abbrev pub stated_of_commands : Verb → Declared → List Value → Option EventValue
 stated_of_commands verb.Order d (Text m ∷ Octets octets ∷ []) = Some
     (EventValue.Order (party_number m d.members) octets)
@@ -39,7 +39,7 @@ stated_of_commands verb.Delete d (Text m ∷ Text client ∷ Named name ∷ []) 
     Some (EventValue.Delete (party_number m d.members) (party_number client d.clients) name)
 stated_of_commands _ d values = None
 
--- The same, and of lines of an insertion and its blocks.
+-- The event of an `insert`, `block` or `status` line; of any other line, that of `stated_of_commands`.
 abbrev pub stated_of_insertions : Verb → Declared → List Value → Option EventValue
 stated_of_insertions verb.Insert d (Text m ∷ Text client ∷ Named name ∷ Number first ∷ Number last ∷ []) =
     Some (EventValue.Insert (party_number m d.members) (party_number client d.clients) name first last)
@@ -49,7 +49,7 @@ stated_of_insertions verb.Status d (Text m ∷ Text client ∷ Number process �
     Some (EventValue.Status (party_number m d.members) (party_number client d.clients) process)
 stated_of_insertions form d values = stated_of_commands form d values
 
--- The same, and of fetches and of packets that come or are asked for.
+-- The event of a `fetch`, `dump`, `hear`, `ask` or `feed` line; of any other line, that of `stated_of_insertions`.
 abbrev pub stated_of_packets : Verb → Declared → List Value → Option EventValue
 stated_of_packets verb.Fetch d (Text m ∷ Number workers ∷ Number tries ∷ Number loss ∷ []) =
     Some (EventValue.Fetch (party_number m d.members) workers tries loss)
@@ -61,7 +61,7 @@ stated_of_packets verb.Feed d (Text m ∷ Number f ∷ Octets octets ∷ []) =
     Some (EventValue.Feed (party_number m d.members) f octets)
 stated_of_packets form d values = stated_of_insertions form d values
 
--- The same, and of parts that are claimed.
+-- The event of a `claim`, `lose` or `answer` line; of any other line, that of `stated_of_packets`.
 abbrev pub stated_of_parts : Verb → Declared → List Value → Option EventValue
 stated_of_parts verb.Claim d (Text m ∷ Number f ∷ []) = Some (EventValue.Claim (party_number m d.members) f)
 stated_of_parts verb.Lose d (Text m ∷ Number f ∷ []) = Some (EventValue.Lose (party_number m d.members) f)
@@ -69,7 +69,8 @@ stated_of_parts verb.Answer d (Text m ∷ Number f ∷ Text q ∷ []) =
     Some (EventValue.Answer (party_number m d.members) f (party_number q d.members))
 stated_of_parts form d values = stated_of_packets form d values
 
--- The same, and of what members have and of the whole group.
+-- The event of a `vector`, `catalogue`, `settle`, `summary` or `traffic` line; of any other line, that of
+-- `stated_of_parts`.
 abbrev pub stated_of_group : Verb → Declared → List Value → Option EventValue
 stated_of_group verb.Vector d (Text m ∷ []) = Some (EventValue.Vector (party_number m d.members))
 stated_of_group verb.Catalogue d (Text m ∷ []) = Some (EventValue.Catalogue (party_number m d.members))
@@ -78,8 +79,8 @@ stated_of_group verb.Summary d [] = Some EventValue.Summary
 stated_of_group verb.Traffic d [] = Some EventValue.Traffic
 stated_of_group form d values = stated_of_parts form d values
 
--- The same, and of what one member does and of the time. A declaration states no event, and neither does a line of
--- watchers or mirrors.
+-- The event of a `publish`, `withdraw`, `deliver`, `sync`, `advance`, `fire` or `restart` line; of any other line, that
+-- of `stated_of_group`. A declaration states no event, and neither does a line of watchers or mirrors.
 abbrev pub stated_by : Verb → Declared → List Value → Option EventValue
 stated_by verb.Publish d (Text m ∷ Named name ∷ Number size ∷ Octets content ∷ []) =
     Some (EventValue.Publish (party_number m d.members) name size content)

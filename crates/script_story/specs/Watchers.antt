@@ -26,7 +26,7 @@ pub record IsAnnouncingLine (env : RunEnvironment) (r : Reached) (label : List �
   pub stated : Says line (statement verb.Told (Text label ∷ Number number ∷ []))
   pub taken : LineIsTaken env r line report new
 
--- Two reports tell the watcher of a number of entries, and no publication has an entry in both.
+-- Two reports announce entries to the watcher of this number, and no publication has an entry in both.
 pub record TellApart (labels : List (List ℕ)) (label : List ℕ) (number : ℕ) (first later : List ℕ) : Type 0 where
   pub entries : List Entry
   pub others : List Entry
@@ -34,7 +34,7 @@ pub record TellApart (labels : List (List ℕ)) (label : List ℕ) (number : ℕ
   pub later_is : later ≡ labelled_news labels label number others
   pub apart : (pair : Pair) → lists pair entries ≡ true → lists pair others ≡ false
 
--- So do any two `told` lines of a watcher, whatever lines stand between them.
+-- No two `told` lines of a watcher report entries of one publication, whatever lines stand between them.
 abbrev pub NewsIsAnnouncedOnce : Type 0
 NewsIsAnnouncedOnce = (env : RunEnvironment) (lines reports : List (List ℕ)) (r : Reached)
     → AreTakenFirst env lines reports r → (label : List ℕ) (number : ℕ) (first : List ℕ) (new : Reached)
@@ -42,7 +42,7 @@ NewsIsAnnouncedOnce = (env : RunEnvironment) (lines reports : List (List ℕ)) (
     → LinesAreTaken env new between printed here → (later : List ℕ) (last : Reached)
     → IsAnnouncingLine env here label number later last → TellApart (labels_at r) label number first later
 
--- A `told` line of a member's watcher, which is this one then.
+-- A `told` line of the watcher `number` of member `m`, which is `watching` before the line.
 pub record IsAnnouncedTo (env : RunEnvironment) (r : Reached) (m number : ℕ) (watching : Watching) (report : List ℕ)
     (new : Reached) : Type 0 where
   pub label : List ℕ
@@ -64,8 +64,8 @@ NewsIsAnnouncedWhole = (env : RunEnvironment) (lines reports : List (List ℕ)) 
     → (others printed : List (List ℕ)) (last : Reached) → LinesAreTaken env new others printed last
     → IsAmongAnnounced last m number pair
 
--- So where a `told` line stands right after a `settle` line, and no line can have deleted anything, everything in the
--- join of all publications that the watcher asks for is reported.
+-- Where a `told` line stands after a `settle` line, no line before the `settle` line can have deleted anything, and the
+-- lines between change nothing, everything in the join of all publications that the watcher asks for is reported.
 abbrev pub SettledAreAnnounced : Type 0
 SettledAreAnnounced = (env : RunEnvironment) (before : List (List ℕ)) (settle : List ℕ) (workers : ℕ)
     (between reports : List (List ℕ)) (r : Reached)

@@ -41,8 +41,7 @@ pub fn printed_catalogues_list_what_is_held()
     ensures later { PrintsLater }
 {}
 
-/// In every run each number of a member that a report is made of is that of a member that a line declared, whose
-/// label is printed.
+/// In every run each member that a report names was declared by a line, and is printed by its label.
 pub fn printed_labels_are_declared()
     ensures reports { ReportsNameOnlyMembers }
     ensures labels { MembersHaveLabels }
@@ -64,13 +63,13 @@ pub fn settled_catalogues_list_what_was_held()
     ensures left { SettledListWhatIsLeft }
 {}
 
-/// In every run what a member lists it lists from then on, with the same object, until it deletes it or holds the
-/// record of a withdrawal of it.
+/// In every run a member that lists an object lists it from then on, unchanged, until it deletes it or holds the record
+/// of a withdrawal of it.
 pub fn listed_objects_stay_listed()
     ensures { ListedStay }
 {}
 
-/// Where lines deliver to each member, for each other that published, a sync Interest that reports its last
+/// Where lines deliver to each member, for each other member that published, a sync Interest that reports its last
 /// publication, and in the end nothing is wanted or deleted, every member's catalogue is the join of all publications,
 /// and is printed so, without any `settle` line.
 pub fn informed_members_join_without_a_settle()
@@ -106,9 +105,9 @@ pub fn news_is_announced_once()
     ensures { NewsIsAnnouncedOnce }
 {}
 
-/// In every run a `told` line leaves nothing untold of what the member lists and the watcher asks for, and it stays
-/// reported. Right after a `settle` line, where no line was taken that can delete, that is everything that the watcher
-/// asks for in the join of all publications, less what was withdrawn.
+/// In every run, after a `told` line everything that the member lists and the watcher asks for is reported, and stays
+/// so. Right after a `settle` line, where no line was taken that can delete, that is everything that the watcher asks
+/// for in the join of all publications, less what was withdrawn.
 pub fn news_is_announced_whole()
     ensures all { NewsIsAnnouncedWhole }
     ensures settled { SettledAreAnnounced }

@@ -8,14 +8,14 @@ use std::thread::Threads;
 struct Changes {
     // Lines before, each with what it prints after it.
     before: &'static str,
-    // What stands in front of the octets in their line, and of what it prints.
+    // What stands before the octets in their line, and what the line's report begins with.
     line: &'static str,
     octets: &'static str,
     // What is printed of the first octet alone, and of more that are not all.
     cut: [&'static str; 2],
-    // What is printed where the lowest bit of one octet is another, for so many octets after each other.
+    // What is printed where the lowest bit of one octet is flipped, and for how many octets one after another.
     flipped: &'static [(u32, &'static str)],
-    // Where 32 octets stand in which each bit counts, and what is printed where one of them is another.
+    // Places at which 32 octets begin of which each bit counts, and what is printed where one of these bits is flipped.
     sealed: (&'static [u8], &'static str),
     // What is printed of 8,800 octets 05, and of one more.
     long: [&'static str; 2],
@@ -121,7 +121,7 @@ const CHANGES: [Changes; 4] = [
         long: ["refused WrongType 5", "refused PacketTooLong"],
         whole: "kept",
     },
-    // An Interest for that record.
+    // An Interest for the record.
     Changes {
         before: "publish alice /doc 10 text:abc\n\
              > publish alice 1 segments 1 sync 1\n",
@@ -214,7 +214,7 @@ fn put_changes(
     put_octets(rt, script, line, octets);
 }
 
-// The octets with one bit flipped of those that stand in 32 places from this one on.
+// The octets with one bit flipped, for each bit of the 32 octets from place `at` on.
 fn put_flips(
     rt: &(impl Abort + AllocGlobal),
     script: &mut String,
@@ -232,7 +232,7 @@ fn put_flips(
     }
 }
 
-// So many octets 05.
+// A line with `n` octets 05.
 fn put_long(rt: &(impl Abort + AllocGlobal), script: &mut String, line: &str, n: usize) {
     let octets = vec![in rt.alloc(); 5; n].expect(rt, "memory");
     put_octets(rt, script, line, &octets);

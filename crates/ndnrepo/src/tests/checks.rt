@@ -1,15 +1,15 @@
-// What tests expect, and the row or the subject that is named where it is otherwise.
+// What tests expect. Where it isn't so, the row or the subject is named.
 //
 // Each check is a call: an `assert!` is a way out of the function that it stands in, and proved there.
 use std::fmt::Debug;
 use std::process::Abort;
 
-// This is so.
+// The fact is true.
 pub(super) fn is(rt: &impl Abort, fact: bool, row: &str) {
     assert!(rt; fact, "{row}");
 }
 
-// The same of a row of octets.
+// The fact is true. The row is octets.
 pub(super) fn is_of(rt: &impl Abort, fact: bool, row: &[u8]) {
     assert!(rt; fact, "{row:?}");
 }
@@ -29,7 +29,7 @@ pub(super) fn same<T: Debug + PartialEq + Drop>(rt: &impl Abort, found: T, wante
     assert!(rt; found == wanted, "{row}: {found:?}, and not {wanted:?}");
 }
 
-// Both are the same of a row of octets.
+// Both are the same. The row is octets.
 pub(super) fn same_of<T: Debug + PartialEq + Drop>(
     rt: &impl Abort,
     found: T,

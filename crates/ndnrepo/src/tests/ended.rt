@@ -24,7 +24,7 @@ const LATER: &str = "group /g\n\
     settle 2\n\
     advance 5\n";
 
-// Runs on an input from a slice, and leaves the world.
+// Runs on an input from a slice, and returns the status and the world.
 fn run_slice<R: Threads + Sync + AllocGlobal + Abort>(
     rt: &R,
     words: &str,
@@ -98,7 +98,7 @@ fn the_last_world_reports_what_came_of_it(rt: HostRuntime) {
     }
 }
 
-// What is answered. No world is left.
+// What is answered. There is no world at the end.
 fn leaves_none<R: Threads + Sync + AllocGlobal + Abort>(
     rt: &R,
     words: &str,

@@ -18,7 +18,7 @@ const FIRST: &str = "group /g\n\
     > entry alice 1 /doc segments 1 octets 3 sha256 \
     ba7816bf8f01cfea414140de5dae2223b00361a396177a9cb410ff61f20015ad\n";
 
-// What the lines print of which so many octets of the script have the whole.
+// The report of the lines that the first `octets` octets of the script have whole.
 fn report_within(rt: &(impl Abort + AllocGlobal), transcript: &str, octets: usize) -> String {
     let mut report = String::new(rt.alloc());
     let mut end: usize = 0;
@@ -32,7 +32,7 @@ fn report_within(rt: &(impl Abort + AllocGlobal), transcript: &str, octets: usiz
     report
 }
 
-// Expects this from pieces of 20 octets, of which a call fails.
+// Expects this of an input in pieces of 20 octets, where this call fails.
 fn expect_from_failing<R: Threads + Sync + AllocGlobal + Abort>(
     rt: &R,
     script: &str,
@@ -45,7 +45,7 @@ fn expect_from_failing<R: Threads + Sync + AllocGlobal + Abort>(
     expect_from(rt, "run", &mut source, wanted, text);
 }
 
-// A source that fails at a call has given 20 octets in each before.
+// A source of pieces of 20 octets fails at a call: each call before gave 20 octets.
 fn expect_read_fault<R: Threads + Sync + AllocGlobal + Abort>(
     rt: &R,
     transcript: &str,

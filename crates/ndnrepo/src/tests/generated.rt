@@ -101,7 +101,7 @@ fn published(line: &str) -> Option<u64> {
     count.parse().ok()
 }
 
-// What a script of eight members says in the end, where all of them have all that is published.
+// The summary of a script of eight members, where all of them hold all that is published.
 fn summary(rt: &(impl Abort + AllocGlobal), script: &[u8]) -> String {
     let mut octets: u64 = 0;
     for line in str::from_utf8(script).unwrap_or("").split('\n') {

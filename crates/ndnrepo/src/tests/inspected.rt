@@ -4,7 +4,8 @@ use std::process::Abort;
 use std::test::*;
 use std::thread::Threads;
 
-// What the program ends with at an octet that has no place, at a limit, and at a fault of an element.
+// The status of an input with an octet that is no digit or space, of one past a limit, and of one with a fault of an
+// element.
 const SYNTAX: Status = Status::Refused { line: 1, number: 1 };
 
 const LIMIT: Status = Status::Refused { line: 1, number: 4 };
@@ -35,7 +36,7 @@ fn digits_are_inspected(rt: HostRuntime) {
     }
 }
 
-// Inspects an input of so many octets: `prefix`, and then one octet again and again.
+// Inspects an input of `filled.0` octets: `prefix`, and then the octet `filled.1` again and again.
 fn expect_filled<R: Threads + Sync + AllocGlobal + Abort>(
     rt: &R,
     prefix: &str,
@@ -57,7 +58,7 @@ fn so_many_octets_are_inspected(rt: HostRuntime) {
     expect_filled(&rt, "0000", (17_600, b'a'), FAULT, zero);
     expect_filled(&rt, "0000", (17_601, b'a'), SYNTAX, syntax);
     expect_filled(&rt, "0000", (17_602, b'a'), LIMIT, limit);
-    // The limit of the input comes before all else.
+    // The limit of the input is tested before all else.
     let empty = "07 Name 0\n";
     expect_filled(&rt, "0700", (16_777_216, b' '), Status::Done, empty);
     expect_filled(&rt, "070g", (16_777_217, b' '), LIMIT, limit);

@@ -6,7 +6,7 @@ use std::process::Abort;
 use std::test::*;
 use std::thread::Threads;
 
-// A reader or a writer that signals interrupt so many times before each call that moves octets, at most 20 of them.
+// A reader or a writer that signals an interrupt `times` times before each call that moves octets, at most 20 of them.
 #[derive(Drop)]
 struct Interrupted<T> {
     inner: T,
@@ -20,7 +20,7 @@ impl<T> Interrupted<T> {
         Interrupted { inner, times, left }
     }
 
-    // How many octets of so many this call moves.
+    // How many of `len` octets this call moves.
     fn turn(&mut self, len: usize) -> io::Result<usize> {
         if self.left > 0 {
             self.left = self.left.saturating_sub(1);
@@ -49,7 +49,7 @@ impl<T: Write> Write for Interrupted<T> {
     }
 }
 
-// A run whose reads and writes are interrupted so many times each.
+// A run whose reads are interrupted `times.0` times each, and whose writes `times.1` times each.
 fn expect_interrupted<R: Threads + Sync + AllocGlobal + Abort>(
     rt: &R,
     script: &str,

@@ -113,7 +113,7 @@ const STORIES: [&[(&str, &str)]; 5] = [
     ],
 ];
 
-// Each member starts again, and what a settle leaves is printed.
+// Each member starts again, and the catalogues after a settle are printed.
 const END: &str = "restart alice\nrestart bob\nsettle 2\ncatalogue alice\ncatalogue bob\n";
 
 // Both members catalogue these entries.
@@ -124,7 +124,7 @@ fn catalogues_of(rt: &(impl Abort + AllocGlobal), entries: &str) -> String {
     ).expect(rt, "memory")
 }
 
-// What a script writes ends so.
+// Expects that what a script writes ends with `end`.
 fn expect_end<R: Threads + Sync + AllocGlobal + Abort>(rt: &R, script: &str, end: &str) {
     let mut source = ReadSource::new(script.as_bytes());
     let mut sink = VecSink::new(rt.alloc(), 5_000, Vec::new(rt.alloc()));

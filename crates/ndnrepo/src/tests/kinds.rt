@@ -2,7 +2,7 @@ use super::{PRE, expect_transcript};
 use repo_io::*;
 use std::test::*;
 
-// After what stands in front of all: lines, each with what it prints after it, and the status.
+// First lines, then lines each with what it prints after it, and the status.
 const WITHDRAWALS: [(&str, &str, Status); 6] = [
     // The record of a withdrawal takes the object out of both catalogues.
     (
@@ -26,7 +26,7 @@ const WITHDRAWALS: [(&str, &str, Status); 6] = [
             number: 14,
         },
     ),
-    // It comes before the object that it withdraws.
+    // A withdrawal is received before the object that it withdraws.
     (
         PRE,
         "publish alice /doc 10 text:abc\n\
@@ -51,7 +51,7 @@ const WITHDRAWALS: [(&str, &str, Status); 6] = [
          > catalogue bob 0\n",
         Status::Done,
     ),
-    // It comes after an object that is whole, from one who didn't publish it.
+    // A withdrawal is received after an object that is whole, from a member that didn't publish it.
     (
         PRE,
         "member carol /carol 6b33\n\
@@ -167,7 +167,7 @@ const LARGE_OBJECTS: [(&str, &str, Status); 3] = [
          dea81b358bf5398fcac273cd724126e665c20d2ab58957a01beedd2df1f502f4\n",
         Status::Done,
     ),
-    // The largest object comes in a settle.
+    // The largest object is received in a settle.
     (
         PRE,
         "publish alice /j 1 fill:20000:65\n\

@@ -25,7 +25,7 @@ const MIRRORED: [(&str, Status); 3] = [
          ba7816bf8f01cfea414140de5dae2223b00361a396177a9cb410ff61f20015ad\n",
         Status::Done,
     ),
-    // A settle brings it all that members hold.
+    // A settle gives a mirror all that members hold.
     (
         "mirror mia * /\n\
          publish alice /doc/a 10 text:abc\n\
@@ -46,8 +46,8 @@ const MIRRORED: [(&str, Status); 3] = [
          ba7816bf8f01cfea414140de5dae2223b00361a396177a9cb410ff61f20015ad\n",
         Status::Done,
     ),
-    // It keeps what members delete, and what they withdraw until it has the withdrawal's record. What it fetches is no
-    // member's traffic.
+    // A mirror keeps what members delete, and what they withdraw until it has the withdrawal's record. What it fetches
+    // is no member's traffic.
     (
         "client carl /carl 6b34\n\
          mirror mia * /doc\n\
@@ -120,7 +120,7 @@ const REFUSED: [(&str, Status); 12] = [
          > refused 7 5 NoSuchPacket\n",
         Status::Refused { line: 7, number: 5 },
     ),
-    // A member is no mirror,
+    // A member is no mirror.
     (
         "mirror mia * /\n\
          mfetch alice 1 1 0\n\
@@ -173,7 +173,7 @@ const REFUSED: [(&str, Status); 12] = [
             number: 11,
         },
     ),
-    // There are four at most.
+    // A group has at most four mirrors.
     (
         "mirror m1 * /\n\
          mirror m2 * /\n\

@@ -2,8 +2,8 @@ use super::{PRE, expect_transcript};
 use repo_io::*;
 use std::test::*;
 
-// After what stands in front of all: lines, each with what it prints after it, and the status. Where several reasons
-// hold, the first of their order is reported.
+// First lines, then lines each with what it prints after it, and the status. Where several reasons hold, the first of
+// their order is reported.
 const REFUSED: [(&str, &str, Status); 27] = [
     (
         PRE,

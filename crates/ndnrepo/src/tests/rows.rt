@@ -2,7 +2,7 @@ use super::{INSERTION, PRE, expect_transcript};
 use repo_io::*;
 use std::test::*;
 
-// After what stands in front of all: lines, each with what it prints after it, and the status.
+// First lines, then lines each with what it prints after it, and the status.
 const ROWS: [(&str, &str, Status); 25] = [
     // A publication reaches both catalogues.
     (
@@ -36,7 +36,7 @@ const ROWS: [(&str, &str, Status); 25] = [
          > catalogue bob 0\n",
         Status::Done,
     ),
-    // A later sync Interest comes first.
+    // A later sync Interest is heard first.
     (
         PRE,
         "publish alice /a 10 text:abc\n\
@@ -230,7 +230,7 @@ const ROWS: [(&str, &str, Status); 25] = [
          > publish alice 2 segments 1 sync 3\n",
         Status::Done,
     ),
-    // A sync Interest that was sent comes from outside.
+    // A sync Interest that was sent is given from outside.
     (
         PRE,
         "publish alice /doc 10 text:abc\n\
@@ -241,7 +241,7 @@ const ROWS: [(&str, &str, Status); 25] = [
          > hear bob steady\n",
         Status::Done,
     ),
-    // Its last octet is another.
+    // The last octet of a sync Interest is changed.
     (
         PRE,
         "publish alice /doc 10 text:abc\n\
@@ -252,7 +252,7 @@ const ROWS: [(&str, &str, Status); 25] = [
          > hear bob refused ParamsDigest\n",
         Status::Done,
     ),
-    // Nobody sent it.
+    // No member sent this sync Interest.
     (
         PRE,
         "publish alice /doc 10 text:abc\n\
@@ -330,7 +330,7 @@ const ROWS: [(&str, &str, Status); 25] = [
          > order alice 404\n",
         Status::Done,
     ),
-    // No client issued it.
+    // No client issued the command.
     (
         PRE,
         "client carl /carl 6b34\n\
@@ -363,8 +363,8 @@ const ROWS: [(&str, &str, Status); 25] = [
          > told bob 1 0\n",
         Status::Done,
     ),
-    // It is not informed of what was listed before it, nor of another publisher's; a restart and a deletion leave it
-    // reported.
+    // A watcher is not informed of what was listed before it, nor of another publisher's objects; after a restart and a
+    // deletion what was reported to it counts as reported.
     (
         PRE,
         "client carl /carl 6b34\n\
@@ -400,7 +400,7 @@ const ROWS: [(&str, &str, Status); 25] = [
          ba7816bf8f01cfea414140de5dae2223b00361a396177a9cb410ff61f20015ad\n",
         Status::Done,
     ),
-    // The entries that a watcher is informed of come in order of publisher and number, with those that came late.
+    // The entries that a watcher is informed of are in order of publisher and number, with those that were listed late.
     (
         PRE,
         "watch alice * /\n\
@@ -456,7 +456,7 @@ const ROWS: [(&str, &str, Status); 25] = [
          > feed bob 1 kept\n",
         Status::Done,
     ),
-    // Its publisher never made it.
+    // The publisher never made the packet.
     (
         PRE,
         "publish alice /doc 10 text:abc\n\

@@ -29,7 +29,7 @@ fn run_to<R: Threads + Sync + AllocGlobal + Abort, N: Net + Sync>(
     run_over(rt, "run", &mut source, sink, given, &mut end)
 }
 
-// A publication of three segments that bob fetches by so many workers.
+// A publication of three segments that bob fetches, each time with these numbers of workers, tries and loss.
 fn fetching(rt: &(impl Abort + AllocGlobal), lines: &[(u32, u32, u32)]) -> String {
     let mut script = String::from_str(rt.alloc(), PRE).expect(rt, "memory");
     put(
@@ -79,7 +79,7 @@ fn put_publications(rt: &impl Abort, script: &mut String, half: u32) {
     }
 }
 
-// What they print, where so many sync Interests were sent besides.
+// What these publications print, where `besides` other sync Interests were sent before.
 fn put_published(rt: &impl Abort, report: &mut String, half: u32, besides: u32) {
     for i in 0..40u32 {
         if i / 20 == half {

@@ -7,7 +7,8 @@ use std::sync::atomic::{AtomicBool, Ordering};
 use std::test::*;
 use std::thread::Threads;
 
-// A network that passes all. Whoever asks first waits, for so many looks, until all four publications were asked for.
+// A network that passes all. The first call waits until all four publications were asked for, or until it looked
+// 100,000,000 times.
 #[derive(Drop)]
 struct Gate {
     asked: [AtomicBool; 4],

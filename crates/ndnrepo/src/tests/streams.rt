@@ -30,14 +30,14 @@ const ENDINGS: [(&str, u64, Status); 3] = [
     ("settle 1\n", 1, Status::WriteFault),
 ];
 
-// Appends so many lines of comment, of 100 octets each.
+// Appends `lines` lines of comment, of 100 octets each.
 fn put_comments(rt: &impl Abort, script: &mut String, lines: u32) {
     for _ in 0..lines {
         write!(script, "{:#>99}\n", "").expect(rt, "memory");
     }
 }
 
-// How many octets a source of pieces of 4,096 has left, where they are few.
+// How many octets a source of pieces of 4,096 octets still has, where they are few.
 fn octets_left(source: &mut VecSource) -> usize {
     let mut piece = [0; 4_096];
     let mut left: usize = 0;
@@ -68,7 +68,7 @@ fn little_is_read_after_the_end(rt: HostRuntime) {
     }
 }
 
-// A source of these lines, and of many of comment after them.
+// A source of these lines, and of many lines of comment after them.
 fn commented(rt: &(impl Abort + AllocGlobal), lines: &str) -> VecSource {
     let mut script = String::from_str(rt.alloc(), PRE).expect(rt, "memory");
     put(rt, &mut script, lines);
@@ -104,7 +104,7 @@ fn pieces_make_no_difference(rt: HostRuntime) {
     expect(&rt, "run", 100, cut.as_bytes(), Status::Done, &report);
 }
 
-// Comments of so many octets, at least 32,769, in two lines.
+// Comments of `octets` octets, at least 32,769, in two lines.
 fn comments(rt: &(impl Abort + AllocGlobal), octets: usize) -> Vec<u8> {
     let mut script = Vec::new(rt.alloc());
     put_comment(rt, &mut script, 32_767);
@@ -112,13 +112,13 @@ fn comments(rt: &(impl Abort + AllocGlobal), octets: usize) -> Vec<u8> {
     script
 }
 
-// Comment up to so many octets, and a line feed.
+// Comment until the script has `octets` octets, and a line feed.
 fn put_comment(rt: &impl Abort, script: &mut Vec<u8>, octets: usize) {
     script.resize(octets, b'#').expect(rt, "memory");
     script.push(b'\n').expect(rt, "memory");
 }
 
-// Each place of the lines comes to stand after 65,536 octets. The last line is refused by its number.
+// Each place of the lines is once that after 65,536 octets. The last line is refused by its number.
 #[test]
 fn lines_stand_anywhere(rt: HostRuntime) {
     let mut lines = script_of(&rt, "", LINES);
@@ -135,7 +135,7 @@ fn lines_stand_anywhere(rt: HostRuntime) {
     }
 }
 
-// A line, filled with spaces to so many octets, and what ends it.
+// A line, filled with spaces to `octets` octets, and what ends it.
 fn filled(rt: &(impl Abort + AllocGlobal), line: &str, octets: usize, end: &str) -> Vec<u8> {
     let mut script = line.as_bytes().to_vec(rt.alloc()).expect(rt, "memory");
     script.resize(octets, b' ').expect(rt, "memory");
@@ -147,12 +147,12 @@ fn filled(rt: &(impl Abort + AllocGlobal), line: &str, octets: usize, end: &str)
 
 const LIMIT: &str = "refused 1 4 Limit\n";
 
-// What the program ends with at the limit, and at a line that is none.
+// The status at a line that is too long, and at one that isn't in the grammar.
 const TOO_LONG: Status = Status::Refused { line: 1, number: 4 };
 
 const SYNTAX: Status = Status::Refused { line: 1, number: 1 };
 
-// Lines that are filled with spaces to so many octets, with their ends, and the result of each.
+// Lines, the number of octets to which each is filled with spaces, its end, and the result.
 const FILLED: [(&str, usize, &str, Status, &str); 10] = [
     ("#", 32_768, "\n", Status::Done, ""),
     ("#", 32_768, "", Status::Done, ""),
@@ -162,7 +162,7 @@ const FILLED: [(&str, usize, &str, Status, &str); 10] = [
     ("#", 32_769, "", TOO_LONG, LIMIT),
     ("group /g", 32_769, "\n", TOO_LONG, LIMIT),
     ("group /g", 32_768, "\r\n", TOO_LONG, LIMIT),
-    // The limit comes before the grammar.
+    // The limit is tested before the grammar.
     ("\t", 32_769, "\n", TOO_LONG, LIMIT),
     ("\t", 32_768, "\n", SYNTAX, "refused 1 1 Syntax\n"),
 ];
@@ -176,7 +176,7 @@ fn a_line_is_so_long(rt: HostRuntime) {
     }
 }
 
-// A source that gives one line so often.
+// A source that gives one line `times` times.
 #[derive(Drop)]
 struct Repeated {
     line: Vec<u8>,
@@ -207,7 +207,7 @@ impl Source for Repeated {
     }
 }
 
-// A line of so many spaces, and its end, again and again.
+// A line of `line.0` spaces and the end `line.1`, given `times` times.
 fn expect_repeated<R: Threads + Sync + AllocGlobal + Abort>(
     rt: &R,
     line: (usize, &str),
@@ -223,7 +223,7 @@ fn expect_repeated<R: Threads + Sync + AllocGlobal + Abort>(
     expect_from(rt, "run", &mut source, wanted, text);
 }
 
-// Lines of so many spaces without an end of the script, and the result of each.
+// The number of spaces of a line that is repeated without end, the line's end, and the result.
 const ENDLESS: [(usize, &str, Status, &str); 3] = [
     (1, "", TOO_LONG, LIMIT),
     (

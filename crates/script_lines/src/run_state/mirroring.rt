@@ -37,7 +37,7 @@ use std::mem;
 use std::thread::Threads;
 
 impl RunState {
-    // Keeps what one more mirror asks for.
+    // Declares one more mirror, with its pattern.
     pub(super) fn declare_mirror(
         &mut self,
         p: &Option<String>,
@@ -64,7 +64,7 @@ impl RunState {
         self.phase.add_mirror(pattern)
     }
 
-    // Lets the mirror of a label hear a sync Interest, and writes that.
+    // Lets the mirror with this label hear a sync Interest, and writes the report.
     pub(super) fn mirror_hear<D: Draws>(
         &mut self,
         k: u32,
@@ -111,7 +111,7 @@ impl RunState {
         Ok(())
     }
 
-    // Lets the mirror of a label fetch, and writes what it got.
+    // Lets the mirror with this label fetch, and writes what it received.
     pub(super) fn mirror_fetch<N: Net + Sync, D: Draws, R: Threads + Sync>(
         &mut self,
         rt: &R,
@@ -168,7 +168,7 @@ impl RunState {
         Ok(())
     }
 
-    // Writes what the mirror of a label lists.
+    // Writes what the mirror with this label lists.
     pub(super) fn mirror_list<D: Draws>(
         &mut self,
         label: String,
@@ -211,7 +211,7 @@ impl RunState {
     }
 }
 
-// The world of a group, with mirrors that ask for this.
+// The world of a group, with mirrors of these patterns.
 pub(super) fn begin_world<D: Draws>(
     alloc: Global,
     group: Group,

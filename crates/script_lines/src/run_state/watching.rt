@@ -31,7 +31,7 @@ use std::alloc::{AllocError, Global};
 use std::mem;
 
 impl RunState {
-    // Gives the member of a label a watcher more, and writes its number.
+    // Gives the member with this label one more watcher, and writes its number.
     pub(super) fn watch<D: Draws>(
         &mut self,
         label: String,
@@ -55,7 +55,7 @@ impl RunState {
         self.give_watcher(m, pattern, report, draws)
     }
 
-    // Tells a watcher of the member of a label its news, and writes them.
+    // Reports its news to watcher `number` of the member with this label, and writes them.
     pub(super) fn tell<D: Draws>(
         &mut self,
         label: String,
@@ -77,7 +77,7 @@ impl RunState {
         self.tell_watcher(m, number, report, draws)
     }
 
-    // Gives a member a watcher more, and writes its number.
+    // Gives member `m` one more watcher, and writes its number.
     fn give_watcher<D: Draws>(
         &mut self,
         m: u32,
@@ -105,7 +105,7 @@ impl RunState {
         Ok(())
     }
 
-    // Tells a watcher of a member its news, and writes them.
+    // Reports its news to watcher `number` of member `m`, and writes them.
     fn tell_watcher<D: Draws>(
         &mut self,
         m: u32,
@@ -141,7 +141,7 @@ impl RunState {
     }
 }
 
-// Adds a watcher of a member, and writes its number.
+// Adds a watcher to those of member `m`, and writes its number.
 fn add_watcher(
     watchers: &mut [Watchers],
     pattern: Pattern,
@@ -167,7 +167,7 @@ fn add_watcher(
     Ok(())
 }
 
-// Tells the watcher of a number its news, and writes them.
+// Reports its news to the watcher of this number, and writes them.
 fn tell_news(
     alloc: Global,
     watchers: &mut [Watchers],
