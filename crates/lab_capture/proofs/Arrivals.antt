@@ -1,4 +1,4 @@
--- Each frame of what came in a line has an Interest in it, or the packet of a part that is held.
+-- Each frame of parts that were gained in a line has an Interest in it, or the packet of a part that is held.
 use Rattle.std.proofs.Common.{◌≡◌, ℕ, ◌==◌, ◌&&◌, Bool, true, false, List, [], ◌∷◌, ◌++◌, length, map}
 use Rattle.std.proofs.Common.{Option, Some, None, Result, Ok, Err, All, inl, inr, refl, sym, subst}
 use Rattle.std.specs.Prelude.{IfSome, if◌then◌else◌, nat_le, nat_lt, unwrap_or}
@@ -155,7 +155,7 @@ module _ (g : GroupKeys) (w : World) (ms : List Mirroring) where
       let parts = and_parts ((mirror_of ms i).holds t) (is_for (mirror_of ms i).pattern (logs w) (pair_of t)) h in
       record { holds = parts.0; keeps = parts.1 })
 
-  -- ---- what came
+  -- ---- parts that were gained
 
   of_claim : (o : Option Claimed) → ClaimAsks o → All P (claim_frames g w o)
   of_claim None is = All-nil P
@@ -225,7 +225,7 @@ module _ (g : GroupKeys) (w : World) (ms : List Mirroring) where
             (gained_if w (Mirror h.member) t (mirror_packet g w (mirror_of ms h.member) t))
             (of_gained (Mirror h.member) t (mirror_packet g w (mirror_of ms h.member) t) (mirror_has h.member t))
 
-  -- what came where the claim and the fetch ask
+  -- all frames of gained parts, where those of the claim and of the fetch are Interests
   of_known : (k : Known) → ClaimAsks k.claim → All P (fetch_frames g w k.fetch)
       → All P (gains g w k ++ flat_map (mirror_parts g w ms) k.mirrors)
   of_known k claim fetch =

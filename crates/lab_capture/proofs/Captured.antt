@@ -35,7 +35,7 @@ one_more frames frame =
     flat_map_more frame_record [] (map framed frames) (framed frame)
     ∙ ap records (sym (map-append framed frames (frame ∷ [])))
 
--- One frame more is read.
+-- One more frame is read.
 pub read_on : (octets rest others : List ℕ) (frames : List Frame) (frame : Frame)
     → octets ≡ capture_head ++ (records (map framed frames) ++ rest)
     → rest ≡ frame_record (framed frame) ++ others
@@ -52,7 +52,7 @@ pub frames_on : (frames : List Frame) (frame : Frame) → All IsFrame (map frame
 frames_on frames frame all is =
     rw (map-append framed frames (frame ∷ [])) (All-push IsFrame (map framed frames) (framed frame) all is)
 
--- All is read.
+-- All frames are read.
 pub read_whole : (octets rest : List ℕ) (frames : List Framed) → octets ≡ capture_head ++ (records frames ++ rest)
     → rest ≡ [] → octets ≡ capture_octets frames
 read_whole octets rest frames so_far empty =

@@ -106,7 +106,7 @@ number_next x y = elim (cases_lt x y) [
   ]
 ]
 
--- after a part are those that are not below the next one,
+-- the parts after a part are those that are not below the next part
 pub from_next : (t u : Part) → is_from (record t { part = t.part + 1 }) u ≡ is_after (Some t) u
 from_next t u = by_first (nat_cmp t.publisher u.publisher) (nat_cmp t.seq u.seq) t.part u.part
     (number_next t.part u.part)
@@ -124,7 +124,7 @@ of_zero a b c (inr e) (inl f) h = rw (e, f) refl
 of_zero a b c (inr e) (inr f) (inl h) = rw (e, f, h) refl
 of_zero a b c (inr e) (inr f) (inr h) = rw (e, f, h) refl
 
--- and none is below the least
+-- no part is below the least part
 pub from_all : (u : Part) → is_from (record { publisher = 0; seq = 0; part = 0 }) u ≡ true
 from_all u = of_zero (nat_cmp 0 u.publisher) (nat_cmp 0 u.seq) (nat_cmp 0 u.part)
     (from_zero u.publisher) (from_zero u.seq) (from_zero u.part)

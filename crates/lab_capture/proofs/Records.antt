@@ -17,7 +17,7 @@ use Rattle.lab_capture.specs.Reading.{station_at, station_of}
 
 -- ---- fields
 
--- So many octets are there.
+-- Octets that begin with `n` octets have at least `n`.
 are_there : (n : ℕ) (xs ys : List ℕ) → length xs ≡ n → nat_le n (length (xs ++ ys)) ≡ true
 are_there n xs ys e =
     le-leb n (length (xs ++ ys))

@@ -16,7 +16,7 @@ use Rattle.lab_capture.specs.declared.station.Station.TheVariants.{AllMembers, M
 use Rattle.lab_capture.specs.Frames.{new_syncs, sent_now, sync_frames, sync_to, sync_to_some}
 use Rattle.lab_capture.specs.Laws.{WasSent}
 
--- what holds of all that comes of each holds of all together
+-- a condition that holds of all values of each element holds of all values of all elements
 pub all_of_each : {X Y : Type 0} (P : Y → Type 0) (f : X → List Y) → ((x : X) → All P (f x)) → (xs : List X)
     → All P (flat_map f xs)
 all_of_each P f each [] = All-nil P

@@ -27,7 +27,7 @@ pub text_joined : (a b : List Framed) → frames_text (a ++ b) ≡ frames_text a
 text_joined a b = ap (flat_map frame_record) (filter-append fits a b)
     ∙ flat_map-append frame_record (filter fits a) (filter fits b)
 
--- some were written, and then others
+-- the frames `a` were written, and then the frames `b`
 pub text_goes_on : (old mid new : List ℕ) (a b : List Framed) → mid ≡ old ++ frames_text a → new ≡ mid ++ frames_text b
     → new ≡ old ++ frames_text (a ++ b)
 text_goes_on old mid new a b first then =
@@ -65,7 +65,7 @@ mapped_more {A} {B} f g n so_far now x are is more =
     ∙ sym (map-append g (numbers_from 0 n) ((0 + n) ∷ [])) ∙ ap (map g) (sym (numbers_last 0 n))
     ∙ ap (λ (k : ℕ). map g (numbers_from 0 k)) next
 
--- the text of one more element was written, of those that were left
+-- the frames of one more element of `left` were written, and those of `rest` are still to be written
 pub passed_text : {A : Type 0} (f : A → List Framed) (left rest : List A) (x : A) (mid new whole : List ℕ)
     → left ≡ x ∷ rest → mid ++ frames_text (flat_map f left) ≡ whole → new ≡ mid ++ frames_text (f x)
     → new ++ frames_text (flat_map f rest) ≡ whole
@@ -98,7 +98,7 @@ want_text g w c old mid new asker asked interest packet is_asker is_asked is_int
 
 -- ---- a line
 
--- mirrors are as many as they are
+-- the number of mirrors in the text may be `n` or `k`, which are equal
 pub counted_text : (d : Declared) (g : GroupKeys) (w : World) (n k : ℕ) (stated : Option Stated) (old new rest : List ℕ)
     → n ≡ k → new ≡ old ++ (frames_text (said d g w n stated) ++ rest)
     → new ≡ old ++ (frames_text (said d g w k stated) ++ rest)

@@ -48,7 +48,7 @@ member_in [] (suc j) = refl
 member_in (m ∷ ms) zero = refl
 member_in (m ∷ ms) (suc j) = member_in ms j
 
--- what two functions make of the first elements that pass a test is the same where they agree on those
+-- two functions that agree on elements that pass a test give the same of the first of those elements
 same_filtered : (test : Part → Bool) (f g : Part → Asked) → ((t : Part) → test t ≡ true → f t ≡ g t) → (n : ℕ)
     (ts : List Part) → map f (take n (filter test ts)) ≡ map g (take n (filter test ts))
 same_filtered test f g same zero ts = refl
@@ -77,7 +77,7 @@ module _ (s : GroupState) (is : IsConsistentState s) where
       length-map (in_groups s.members) (λ (m : Member). m.log) ∙ length-map s.members in_group in
       omega (arith, a, is.are.width, is.are.group.members.roster.few)
 
-  -- who sent a sync Interest is a member
+  -- the sender of a sync Interest is a member
   pub few_senders : (k m : ℕ) → sender_at (world_of s) k ≡ Some m → m < 16
   few_senders k m e = elim (cases_Bool (k == 0)) [
     | inl zero_ ↦ let h : None ≡ Some m = sym (rw zero_ refl) ∙ e in absurd cc

@@ -12,11 +12,11 @@ use Rattle.lab_text.specs.LineTexts.{without_feed}
 abbrev pub report_words : List ℕ → List (List ℕ)
 report_words report = slice_split (λ octet. octet == 32) (without_feed report)
 
--- The greatest number of 16 bits,
+-- The greatest number of 16 bits.
 abbrev pub most_code : ℕ
 most_code = 65535
 
--- and of 64 bits.
+-- The greatest number of 64 bits.
 abbrev pub most_number : ℕ
 most_number = 18446744073709551615
 
@@ -28,7 +28,7 @@ answer_field code word n =
     else if bytes_eq word (codes "packets") then Some (record (code_only code) { deleted = Some n })
     else None
 
--- The same, if both are numbers.
+-- The answer of a code and the number `n`, by the word before the number, if both could be read.
 abbrev pub answer_with : Option ℕ → List ℕ → Option ℕ → Option Answer
 answer_with (Some code) word (Some n) = answer_field code word n
 answer_with _ word n = None
@@ -51,7 +51,7 @@ answer_report report = answer_in (report_words report)
 abbrev pub is_one_word : List ℕ → Bool
 is_one_word word = list_all (λ octet. not (octet == 32)) word
 
--- Of three numbers of 64 bits there is one at most.
+-- At most one of three numbers is given, and it is below 2 ^ 64.
 abbrev pub AreOneAtMost : Option ℕ → Option ℕ → Option ℕ → Type 0
 AreOneAtMost None None n = IsSmall n
 AreOneAtMost None n None = IsSmall n

@@ -13,7 +13,7 @@ pub record Captured : Type 0 where
   pub begun : Bool
   pub known : Known
 
--- Before the first line.
+-- What is kept before the first line.
 abbrev pub nothing_captured : Captured
 nothing_captured = record { begun = false; known = nothing_known }
 
@@ -21,7 +21,8 @@ nothing_captured = record { begun = false; known = nothing_known }
 abbrev pub head_once : Bool → List ℕ
 head_once begun = if begun then [] else capture_head
 
--- The frames of a line, if it was taken, by its report: a command and its reply, or what else it gives.
+-- The frames of a line, if it was taken: a command and its reply, which are read in the line's report, and its other
+-- frames.
 abbrev pub taken_frames : Known → List ℕ → List ℕ → Option State → List Framed
 taken_frames known line report None = []
 taken_frames known line report (Some after) = line_replies after line report ++ line_frames after known line

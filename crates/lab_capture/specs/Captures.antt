@@ -17,7 +17,7 @@ address (Client number) = 2 ∷ 0 ∷ 0 ∷ 0 ∷ 2 ∷ (number + 1) ∷ []
 address Outside = 2 ∷ 0 ∷ 0 ∷ 0 ∷ 3 ∷ 1 ∷ []
 address AllMembers = 1 ∷ 0 ∷ 94 ∷ 0 ∷ 23 ∷ 170 ∷ []
 
--- Its number, if it has one, has an address.
+-- The number of the station, if it has one, fits into its address.
 abbrev pub IsStation : Station → Type 0
 IsStation (Member number) = number < 255
 IsStation (Mirror number) = number < 255
@@ -27,7 +27,7 @@ IsStation AllMembers = Unit {0}
 
 -- ---- frames
 
--- A frame: when it was sent, in seconds and microseconds, who sent it to whom, and the packet in it.
+-- A frame: when it was sent, in seconds and microseconds, by which station and to which, and the packet in it.
 pub record Framed : Type 0 where
   pub seconds : ℕ
   pub micros : ℕ
@@ -35,7 +35,7 @@ pub record Framed : Type 0 where
   pub destination : Station
   pub packet : List ℕ
 
--- A frame of the code as such a value.
+-- The `Framed` of a `Frame` of the code.
 abbrev pub framed : Frame → Framed
 framed f = record {
   seconds = f.seconds;
@@ -108,6 +108,6 @@ capture_octets frames = capture_head ++ flat_map frame_record frames
 
 -- ---- what is no capture
 
--- Octets that are the capture of no frames.
+-- Octets that are not the capture of any list of frames.
 abbrev pub IsNoCapture : List ℕ → Type 0
 IsNoCapture octets = (frames : List Framed) → All IsFrame frames → octets ≢ capture_octets frames

@@ -8,23 +8,23 @@ use Rattle.lab_capture.specs.declared.held.Holding.{Holding}
 use Rattle.lab_capture.specs.declared.known.KnownBefore.{KnownBefore}
 use Rattle.lab_capture.specs.Frames.{Asked, Claimed, Fetched, Holder, Known}
 
--- A claim of the code as such a value.
+-- The `Claimed` of a `Claim` of the code.
 abbrev pub claimed : Claim → Claimed
 claimed c = record { asker = c.asker; asked = c.asked; part = c.part; interest = c.interest.items }
 
--- A part that a job asks for, with its Interest.
+-- The part that a job of the code asks for, with its Interest.
 abbrev pub asked_by : Job → Asked
 asked_by j = record { part = j.want.part; interest = j.want.interest }
 
--- A fetch of the code as such a value.
+-- The `Fetched` of a `Fetch` of the code.
 abbrev pub fetched : Fetch → Fetched
 fetched f = record { asker = f.asker; parts = map asked_by f.jobs.items }
 
--- A member with what it held as such a value.
+-- The `Holder` of a `Holding` of the code.
 abbrev pub holder_of : Holding → Holder
 holder_of h = record { member = h.member; held = h.held }
 
--- What is known before a line as such a value.
+-- The `Known` of a `KnownBefore` of the code.
 abbrev pub known_as : KnownBefore → Known
 known_as k = record {
   sent = k.sent;

@@ -59,7 +59,7 @@ below bound (Some i) = if nat_lt i bound then Some i else None
 abbrev pub member_named : Declared → World → List ℕ → Option ℕ
 member_named d w label = below (length w.members) (party_place label d.members)
 
--- The mirror of a label, of so many.
+-- The mirror of a label, where there are `mirrors` mirrors.
 abbrev pub mirror_named : Declared → ℕ → List ℕ → Option ℕ
 mirror_named d mirrors label = below mirrors (mirror_place label d.mirrors)
 
@@ -78,7 +78,7 @@ claim_with g w m q None = None
 claim_with g w m q (Some t) =
     Some (record { asker = m; asked = q; part = t; interest = (published_want g (logs w) t).interest })
 
--- The same, if there are such members, and fetchers of this number.
+-- The claim that fetcher `f` of a member sends to another member, if there are both members and the fetcher.
 abbrev pub claim_between : GroupKeys → World → ℕ → Option ℕ → Option ℕ → Option Claimed
 claim_between g w f (Some m) (Some q) =
     if nat_le 1 f && nat_le f 16 then claim_with g w m q (claim_at w m f) else None
@@ -90,7 +90,7 @@ claim_of d g w verb.Answer (Text m ∷ Number f ∷ Text q ∷ []) =
     claim_between g w f (member_named d w m) (member_named d w q)
 claim_of d g w _ values = None
 
--- The same of a line that states something or nothing.
+-- The claim that a line sends, if it states something.
 abbrev pub claim_sent : Declared → GroupKeys → World → Option Stated → Option Claimed
 claim_sent d g w None = None
 claim_sent d g w (Some s) = claim_of d g w s.verb s.values
@@ -104,12 +104,12 @@ pub record Asked : Type 0 where
 abbrev pub asked_for : GroupKeys → World → Part → Asked
 asked_for g w t = record { part = t; interest = (published_want g (logs w) t).interest }
 
--- What a fetch asks all for: the parts that a member plans, in order.
+-- A fetch: the member `asker`, which asks all members, and the parts that it plans, in order.
 pub record Fetched : Type 0 where
   pub asker : ℕ
   pub parts : List Asked
 
--- The fetch of a member, if there is one.
+-- The fetch of a member, if a member is given.
 abbrev pub fetch_by : GroupKeys → World → Option ℕ → Option Fetched
 fetch_by g w None = None
 fetch_by g w (Some m) = Some (record { asker = m; parts = map (asked_for g w) (planned_parts w m) })
@@ -120,7 +120,7 @@ fetch_of d g w verb.Fetch (Text m ∷ Number workers ∷ Number tries ∷ Number
     fetch_by g w (member_named d w m)
 fetch_of d g w _ values = None
 
--- The same of a line that states something or nothing.
+-- The fetch that a line makes, if it states something.
 abbrev pub fetch_made : Declared → GroupKeys → World → Option Stated → Option Fetched
 fetch_made d g w None = None
 fetch_made d g w (Some s) = fetch_of d g w s.verb s.values
@@ -134,51 +134,54 @@ pub record Holder : Type 0 where
 abbrev pub holder_in : World → ℕ → Holder
 holder_in w m = record { member = m; held = (member w m).held }
 
--- Who gains what others hold in a line: all members where the group settles.
+-- The members that gain parts in a line, with what they hold: all members where the group settles, else none.
 abbrev pub holders_of : World → Verb → List Holder
 holders_of w verb.Settle = map (holder_in w) (numbers_from 0 (length w.members))
 holders_of w _ = []
 
--- The same of a line that states something or nothing.
+-- The members that gain parts in a line, with what they hold before it; none where the line states nothing.
 abbrev pub holders_before : World → Option Stated → List Holder
 holders_before w None = []
 holders_before w (Some s) = holders_of w s.verb
 
--- A mirror stores the packet of this part: it holds it, and didn't pass it over.
+-- The mirror `m` stores the packet of the part `t`: it holds the part, and the part is of a withdrawal or of an object
+-- that its pattern accepts.
 abbrev pub stores : World → Mirroring → Part → Bool
 stores w m t = m.holds t && is_for m.pattern (logs w) (pair_of t)
 
--- The parts whose packets it stores, in order.
+-- The parts whose packets a mirror stores, in order.
 abbrev pub stored_by : World → Mirroring → List Part
 stored_by w m = filter (stores w m) (all_parts (logs w))
 
--- The packet of a part that it stores.
+-- The packet of a part, if a mirror stores it.
 abbrev pub mirror_packet : GroupKeys → World → Mirroring → Part → Option (List ℕ)
 mirror_packet g w m t = if stores w m t then published_packet g (logs w) t else None
 
--- A mirror with those parts.
+-- A mirror with the parts whose packets it stores.
 abbrev pub mirror_in : World → List Mirroring → ℕ → Holder
 mirror_in w ms i = record { member = i; held = stored_by w (mirror_of ms i) }
 
--- The same, if there is one.
+-- A mirror with the parts whose packets it stores, if a mirror is given.
 abbrev pub mirror_if : World → List Mirroring → Option ℕ → List Holder
 mirror_if w ms None = []
 mirror_if w ms (Some i) = mirror_in w ms i ∷ []
 
--- Which mirrors ask for parts in a line: all where the group settles, or the one that fetches.
+-- The mirrors that ask for parts in a line, with the parts whose packets they store: all where the group settles, or
+-- the one that fetches.
 abbrev pub mirrors_of : Declared → World → List Mirroring → Verb → List Value → List Holder
 mirrors_of d w ms verb.Settle values = map (mirror_in w ms) (numbers_from 0 (length ms))
 mirrors_of d w ms verb.Mfetch (Text label ∷ Number workers ∷ Number tries ∷ Number loss ∷ []) =
     mirror_if w ms (mirror_named d (length ms) label)
 mirrors_of d w ms _ values = []
 
--- The same of a line that states something or nothing.
+-- The mirrors that ask for parts in a line, with the parts whose packets they store before it; none where the line
+-- states nothing.
 abbrev pub mirrors_before : Declared → World → List Mirroring → Option Stated → List Holder
 mirrors_before d w ms None = []
 mirrors_before d w ms (Some s) = mirrors_of d w ms s.verb s.values
 
 -- What is known before a line: how many sync Interests were sent, the claim that the line sends, the fetch that it
--- makes, and which members and mirrors gain what others hold.
+-- makes, and the members and mirrors that gain parts, with what they hold.
 pub record Known : Type 0 where
   pub sent : ℕ
   pub claim : Option Claimed
@@ -190,7 +193,7 @@ pub record Known : Type 0 where
 abbrev pub nothing_known : Known
 nothing_known = record { sent = 0; claim = None; fetch = None; holders = []; mirrors = [] }
 
--- What is known of a world.
+-- What is known before a line, by the world, if there is one.
 abbrev pub known_of : State → List ℕ → Option World → Known
 known_of s line None = nothing_known
 known_of s line (Some w) =
@@ -212,23 +215,23 @@ known_before s line = known_of s line s.world
 abbrev pub sent_now : World → Station → Station → List ℕ → Framed
 sent_now w source destination packet = frame_at w.time source destination packet
 
--- The same, if there is a packet.
+-- The frame of a packet that is sent at the time of the world, if there is a packet.
 abbrev pub sent_if : World → Station → Station → Option (List ℕ) → List Framed
 sent_if w source destination None = []
 sent_if w source destination (Some packet) = sent_now w source destination packet ∷ []
 
--- A sync Interest, if there is one, from its sender.
+-- The frame of a sync Interest from its sender, if there are both.
 abbrev pub sync_frames : World → Station → Option ℕ → Option (List ℕ) → List Framed
 sync_frames w to None octets = []
 sync_frames w to (Some sender) octets = sent_if w (station.Member sender) to octets
 
--- The sync Interest of a number.
+-- The frame of sync Interest `k` to the station `to`, if it was sent.
 abbrev pub sync_to : GroupKeys → World → Station → ℕ → List Framed
 sync_to g w to k = sync_frames w to (sender_at w k) (sync_octets_at g w k)
 
 -- ---- frames of a line
 
--- The sync Interests that were sent in the line, each to all.
+-- The frames of the sync Interests that were sent after the first `sent` ones, each to all members.
 abbrev pub new_syncs : GroupKeys → World → ℕ → List Framed
 new_syncs g w sent = flat_map (sync_to g w station.AllMembers) (numbers_from (sent + 1) (length w.sent - sent))
 
@@ -236,20 +239,21 @@ new_syncs g w sent = flat_map (sync_to g w station.AllMembers) (numbers_from (se
 abbrev pub packet_of : GroupKeys → World → ℕ → Part → Option (List ℕ)
 packet_of g w m t = if member_holds (member w m) t then published_packet g (logs w) t else None
 
--- The want of a claim goes to the member that is asked. Where the part is held after that, its packet comes back.
+-- The frames of a claim: the Interest to the member that is asked, and the packet back, if the asker holds the part
+-- now.
 abbrev pub want_frames : GroupKeys → World → Claimed → List Framed
 want_frames g w c =
     sent_now w (station.Member c.asker) (station.Member c.asked) c.interest
     ∷ sent_if w (station.Member c.asked) (station.Member c.asker) (packet_of g w c.asker c.part)
 
--- The same of the claim that was sent, if there are such members.
+-- The frames of the claim that was sent, if there is one between two members.
 abbrev pub claim_frames : GroupKeys → World → Option Claimed → List Framed
 claim_frames g w None = []
 claim_frames g w (Some c) =
     if nat_lt c.asker (length w.members) && nat_lt c.asked (length w.members) then want_frames g w c else []
 
--- The packets of a part that a member asked all for: the Interest, and the packet from its publisher; nothing where it
--- isn't held.
+-- The frames of a part for which the member `m` asked all members: the Interest, and the packet from its publisher;
+-- none without a packet.
 abbrev pub came_if : World → ℕ → Asked → Option (List ℕ) → List Framed
 came_if w m a None = []
 came_if w m a (Some packet) =
@@ -258,11 +262,11 @@ came_if w m a (Some packet) =
     ∷ sent_now w (station.Member a.part.publisher) (station.Member m) packet ∷ []
     else []
 
--- The same, where the packet is the one that the member holds.
+-- The frames of a part for which the member `m` asked all members; none where it doesn't hold the part now.
 abbrev pub came : GroupKeys → World → ℕ → Asked → List Framed
 came g w m a = came_if w m a (packet_of g w m a.part)
 
--- The packets of a fetch, in order of the parts.
+-- The frames of a fetch, in order of the parts.
 abbrev pub fetch_frames : GroupKeys → World → Option Fetched → List Framed
 fetch_frames g w None = []
 fetch_frames g w (Some f) =
@@ -283,70 +287,74 @@ interest_named t packet (Ok d) =
     if nat_lt 0 (length d.name) && nat_le (length (encoding (named_by t packet d))) name_limit
     then Some (written_plain (named_by t packet d) false) else None
 
--- The Interest that asks for a part that came: by the name of its packet, and unless it is a record by its digest too.
+-- The Interest that asks for a part with this packet: by the name of the packet, and unless the part is a record by its
+-- digest too.
 abbrev pub interest_for : Part → List ℕ → Option (List ℕ)
 interest_for t packet = interest_named t packet (data_of packet)
 
--- A packet reached who asked all for it, and the publisher answered.
+-- The frames of a packet that the station `who` gained: the Interest for it to all members, if it can be asked for, and
+-- the packet from the publisher.
 abbrev pub gained : World → Station → Part → List ℕ → List Framed
 gained w who t packet =
     sent_if w who station.AllMembers (interest_for t packet)
     ++ (sent_now w (station.Member t.publisher) who packet ∷ [])
 
--- The same, if it has the packet and there is such a publisher.
+-- The frames of a packet that the station `who` gained, if there is a packet and its publisher is a member.
 abbrev pub gained_if : World → Station → Part → Option (List ℕ) → List Framed
 gained_if w who t None = []
 gained_if w who t (Some packet) = if nat_lt t.publisher (length w.members) then gained w who t packet else []
 
--- A part that a member holds, if it isn't among those that it held.
+-- The frames of a part that a member holds; none where the part is in `held`, the parts that the member held before.
 abbrev pub new_part : GroupKeys → World → ℕ → List Part → Part → List Framed
 new_part g w m held t = if contains part_cmp held t then [] else gained_if w (station.Member m) t (packet_of g w m t)
 
--- The parts that a member holds and didn't hold, in order.
+-- The frames of the parts that a member holds and didn't hold before, in order.
 abbrev pub new_parts : GroupKeys → World → Holder → List Framed
 new_parts g w h =
     if nat_lt h.member (length w.members)
     then flat_map (new_part g w h.member h.held) (member w h.member).held else []
 
--- A part whose packet a mirror stores, if it isn't among those of which it did.
+-- The frames of a part whose packet a mirror stores; none where the part is in `held`, those whose packets it stored
+-- before.
 abbrev pub mirror_part : GroupKeys → World → Mirroring → ℕ → List Part → Part → List Framed
 mirror_part g w m i held t =
     if contains part_cmp held t then [] else gained_if w (station.Mirror i) t (mirror_packet g w m t)
 
--- The parts whose packets a mirror stores and didn't store, in order.
+-- The frames of the parts whose packets a mirror stores and didn't store before, in order.
 abbrev pub mirror_parts : GroupKeys → World → List Mirroring → Holder → List Framed
 mirror_parts g w ms h =
     if nat_lt h.member (length ms)
     then flat_map (mirror_part g w (mirror_of ms h.member) h.member h.held) (stored_by w (mirror_of ms h.member))
     else []
 
--- A sync Interest reaches a station of a number, if there is one.
+-- The frame of sync Interest `k` to the station `kind i`, if a number `i` is given.
 abbrev pub sync_to_some : GroupKeys → World → ℕ → (ℕ → Station) → Option ℕ → List Framed
 sync_to_some g w k kind None = []
 sync_to_some g w k kind (Some i) = sync_to g w (kind i) k
 
--- What a member serves of octets that ask for something, if they do.
+-- The packet that a member serves where octets ask for it; none where they couldn't be read.
 abbrev pub found : Result (Option (List ℕ)) PacketFault → Option (List ℕ)
 found (Ok packet) = packet
 found (Err fault) = None
 
--- What it serves of the packets of the parts that it holds.
+-- The packet that the member `m` serves where octets ask for it, of the packets of the parts that it holds.
 abbrev pub served_by : GroupKeys → World → ℕ → List ℕ → Option (List ℕ)
 served_by g w m octets = found (served octets (published_packets g (logs w) (member w m).held))
 
--- Octets from outside reach a member.
+-- The frame of octets from outside to a member, if a member is given.
 abbrev pub brought : World → List ℕ → Option ℕ → List Framed
 brought w octets None = []
 brought w octets (Some m) = sent_now w station.Outside (station.Member m) octets ∷ []
 
--- They ask it for something, and where it has that, its packet comes back.
+-- The frames of octets from outside that ask a member for something: the octets, and the packet that the member serves.
 abbrev pub asked : GroupKeys → World → List ℕ → Option ℕ → List Framed
 asked g w octets None = []
 asked g w octets (Some m) =
     sent_now w station.Outside (station.Member m) octets
     ∷ sent_if w (station.Member m) station.Outside (served_by g w m octets)
 
--- The frames of what a line says itself.
+-- The frames of a `deliver`, `mdeliver`, `hear`, `feed` or `ask` line: a sync Interest, or octets from outside and the
+-- packet that answers them.
 abbrev pub said_of : Declared → GroupKeys → World → ℕ → Verb → List Value → List Framed
 said_of d g w mirrors verb.Deliver (Number k ∷ Text m ∷ []) =
     sync_to_some g w k station.Member (member_named d w m)
@@ -357,29 +365,29 @@ said_of d g w mirrors verb.Feed (Text m ∷ Number f ∷ Octets octets ∷ []) =
 said_of d g w mirrors verb.Ask (Text m ∷ Octets octets ∷ []) = asked g w octets (member_named d w m)
 said_of d g w mirrors _ values = []
 
--- The same of a line that states something or nothing.
+-- The frames of a `deliver`, `mdeliver`, `hear`, `feed` or `ask` line; none where the line states nothing.
 abbrev pub said : Declared → GroupKeys → World → ℕ → Option Stated → List Framed
 said d g w mirrors None = []
 said d g w mirrors (Some s) = said_of d g w mirrors s.verb s.values
 
--- The packets of a claim, of a fetch and of a settle.
+-- The frames of a claim, of a fetch and of a settle.
 abbrev pub gains : GroupKeys → World → Known → List Framed
 gains g w known =
     claim_frames g w known.claim ++ (fetch_frames g w known.fetch ++ flat_map (new_parts g w) known.holders)
 
--- What came in a line, after which the world is this: to members, and then to mirrors.
+-- The frames of the parts that members, and then mirrors, gained in a line after which the world is `w`.
 abbrev pub arrivals : State → Known → World → List Framed
 arrivals s known w = gains s.keys w known ++ flat_map (mirror_parts s.keys w s.mirrors) known.mirrors
 
--- The frames of a line, after which the world is this: of what it says itself, then the sync Interests that were sent,
--- then what came.
+-- The frames of a line after which the world is `w`: those of what it delivers or brings from outside, then the sync
+-- Interests that were sent, then the parts that were gained.
 abbrev pub frames_of : State → Known → List ℕ → Option World → List Framed
 frames_of s known line None = []
 frames_of s known line (Some w) =
     said s.declared s.keys w (length s.mirrors) (stated_in line)
     ++ (new_syncs s.keys w known.sent ++ arrivals s known w)
 
--- The frames of a line that was taken, of which this was known before it.
+-- The frames of a line that was taken, where `known` was known before it.
 abbrev pub line_frames : State → Known → List ℕ → List Framed
 line_frames s known line = frames_of s known line s.world
 

@@ -4,7 +4,7 @@ use Rattle.sorted_lists.specs.SortedList.{Rises, contains}
 use Rattle.repo_plan.specs.declared.part.Part.{Part}
 use Rattle.repo_plan.specs.Parts.{part_cmp}
 
--- These are the parts that are held, in order, each once; and none has the greatest number that a part could have.
+-- `held` has the parts for which `has` is true, in order, each once. None of them has the greatest part number, 65535.
 pub record AreHeld (has : Part → Bool) (held : List Part) : Type 0 where
   pub in_order : Rises part_cmp held
   pub same : (t : Part) → has t ≡ contains part_cmp held t

@@ -19,14 +19,14 @@ use Rattle.lab_capture.specs.Captures.{Framed}
 
 -- ---- sync Interests
 
--- In the frame is a sync Interest that was sent, and it is from the member that sent that.
+-- The frame has a sync Interest that was sent, and its source is the member that sent it.
 pub record WasSent (g : GroupKeys) (w : World) (f : Framed) : Type 0 where
   pub sync : SyncInterest
   pub sent : Contains w.sent sync
   pub source : f.source ≡ station.Member sync.sender
   pub packet : f.packet ≡ sync_of g sync.sender sync.vector
 
--- ---- what came
+-- ---- packets that were received
 
 -- A packet is an Interest: an element of that type.
 pub record IsInterest (packet : List ℕ) : Type 0 where
@@ -44,12 +44,12 @@ Holds w ms (station.Member m) t = member_holds (member w m) t ≡ true
 Holds w ms (station.Mirror i) t = MirrorHolds w (mirror_of ms i) t
 Holds w ms other t = ⊥
 
--- A packet is that of a part, as its publisher made it, and a member or a mirror holds the part.
+-- The packet is that of a part, as its publisher made it, and the member or mirror `who` holds the part.
 pub record IsHeld (g : GroupKeys) (w : World) (ms : List Mirroring) (who : Station) (packet : List ℕ) : Type 0 where
   pub part : Part
   pub held : Holds w ms who part
   pub published : published_packet g (logs w) part ≡ Some packet
 
--- In the frame is an Interest, or the packet of a part that the one whom it is for holds.
+-- The frame has an Interest, or the packet of a part that the frame's destination holds.
 abbrev pub AsksOrBrings : GroupKeys → World → List Mirroring → Framed → Type 0
 AsksOrBrings g w ms f = IsInterest f.packet ⊎ IsHeld g w ms f.destination f.packet

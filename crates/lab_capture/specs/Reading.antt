@@ -6,7 +6,7 @@ use Rattle.lab_capture.specs.declared.station.Station.{Station}
 use Rattle.lab_capture.specs.declared.station.Station.TheVariants.{Member, Mirror, Client, Outside, AllMembers}
 use Rattle.lab_capture.specs.Captures.{Framed, address, ethertype, frame_head_octets, snap_octets}
 
--- The only station whose address can end with these two octets.
+-- The only station whose address can end with the octets `kind` and `number`.
 abbrev pub numbered : ℕ → ℕ → Station
 numbered kind number =
     if kind == 0 then Member (number - 1)
@@ -15,7 +15,7 @@ numbered kind number =
     else if kind == 3 then Outside
     else AllMembers
 
--- That station, where this is its address.
+-- The station `station`, if `octets` are its address.
 abbrev pub if_its : Station → List ℕ → Option Station
 if_its station octets = if bytes_eq (address station) octets then Some station else None
 
@@ -39,15 +39,16 @@ after_type octets =
     if nat_le 2 (length octets) then (if bytes_eq (take 2 octets) ethertype then Some (drop 2 octets) else None)
     else None
 
--- A packet of so many octets.
+-- A packet of `count` octets.
 unfoldable pub packet_at : ℕ → List ℕ → Option (List ℕ × List ℕ)
 packet_at count octets = if nat_le count (length octets) then Some (take count octets, drop count octets) else None
 
--- How many octets of a frame follow, and how many it has: it is whole, and has as many as one may have.
+-- `captured`, how many octets of a frame follow, is `count`, how many it has, and a frame of a capture may have that
+-- many.
 abbrev pub is_size : ℕ → ℕ → Bool
 is_size captured count = captured == count && (nat_le frame_head_octets count && nat_le count snap_octets)
 
--- The frame of Ethernet of so many octets, which was sent at this time.
+-- The frame of Ethernet of `count` octets, which was sent at this time.
 abbrev pub ethernet_at : (seconds micros count : ℕ) → List ℕ → Option (Framed × List ℕ)
 ethernet_at seconds micros count octets =
     option_and_then
@@ -69,7 +70,7 @@ ethernet_at seconds micros count octets =
     (station_at d.1))
     (station_at octets)
 
--- The frame whose record begins octets, if one's does.
+-- The frame whose record `octets` begin with, if they begin with one.
 abbrev pub first_frame : List ℕ → Option (Framed × List ℕ)
 first_frame octets =
     option_and_then

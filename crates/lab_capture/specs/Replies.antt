@@ -24,27 +24,27 @@ use Rattle.lab_capture.specs.Frames.{below, member_named, sent_if, sent_now, sta
 abbrev pub client_named : Declared → GroupKeys → List ℕ → Option ℕ
 client_named d g label = below (length g.clients.names) (party_place label d.clients)
 
--- The packet that replies to octets, if the member gave this answer to them.
+-- The packet by which the member `m` replies to octets, if it gave an answer to them.
 abbrev pub reply_of : GroupKeys → ℕ → List ℕ → Option Answer → Option (List ℕ)
 reply_of g m octets None = None
 reply_of g m octets (Some answer) = reply_to_octets g m answer octets
 
--- Octets go to a member, and its reply goes back, if there is one.
+-- The frames of octets from the station `client` to the member `m`, and of the member's reply, if there is one.
 abbrev pub exchanged : GroupKeys → World → Station → ℕ → List ℕ → Option Answer → List Framed
 exchanged g w client m octets answer =
     sent_now w client (station.Member m) octets
     ∷ sent_if w (station.Member m) client (reply_of g m octets answer)
 
--- Octets from outside are a member's order.
+-- The frames of an `order` line: octets from outside to a member, and its reply.
 abbrev pub ordered : GroupKeys → World → Option ℕ → List ℕ → Option Answer → List Framed
 ordered g w None octets answer = []
 ordered g w (Some m) octets answer = exchanged g w station.Outside m octets answer
 
--- A command names nothing longer than objects' names are.
+-- The name in a command is no longer than an object's name may be.
 abbrev pub is_short : Command → Bool
 is_short command = nat_le (named_length command) object_name_limit
 
--- A client gives a member the Interest that it makes of a command.
+-- The frames of a client's command: the Interest that the client makes of it for a member, and the member's reply.
 abbrev pub commanded : GroupKeys → World → Option ℕ → Option ℕ → Command → Option Answer → List Framed
 commanded g w (Some m) (Some client) command answer =
     if is_short command
@@ -62,16 +62,16 @@ replies_of d g w verb.Delete (Text m ∷ Text client ∷ Named name ∷ []) answ
     commanded g w (member_named d w m) (client_named d g client) (command.Delete name) answer
 replies_of d g w _ values answer = []
 
--- The same of a line that states something or nothing, and has this report.
+-- The frames of a line that gives a member a command, by what the line states, if anything, and by its report.
 abbrev pub replies : Declared → GroupKeys → World → Option Stated → List ℕ → List Framed
 replies d g w None report = []
 replies d g w (Some s) report = replies_of d g w s.verb s.values (answer_report report)
 
--- The same, after which the world is this.
+-- The frames of a line that gives a member a command, by its report and by the world after it, if there is one.
 abbrev pub replies_in : State → List ℕ → List ℕ → Option World → List Framed
 replies_in s line report None = []
 replies_in s line report (Some w) = replies s.declared s.keys w (stated_in line) report
 
--- The frames of commands and their replies in a line that was taken, which has this report.
+-- The frames of a command and its reply in a line that was taken, by the line's report.
 abbrev pub line_replies : State → List ℕ → List ℕ → List Framed
 line_replies s line report = replies_in s line report s.world

@@ -82,7 +82,7 @@ fn code_in(word: &[u8]) -> Option<u16>
     }
 }
 
-// The number that a word is in decimal, if it is at most so much.
+// The number that a word is in decimal, if it is at most `most`.
 fn number_in(most: u64, word: &[u8]) -> Option<u64>
     ensures number { result ≡ decimal_of_text most word.now }
     ensures small { IfSome result (λ number. number ≤ most) }

@@ -1,4 +1,4 @@
-// The Interests that ask for parts that came.
+// The Interests that ask for parts whose packets were received.
 ghost use Rattle.std.specs.Prelude.{◌≡◌, ◌<◌, ◌≤◌, Err, Some, false, length, IfOk};
 ghost use Rattle.std.specs.Option.{option_map};
 ghost use Rattle.ndn_interest.specs.WrittenInterest.{written_plain};
@@ -43,7 +43,7 @@ fn write_asking(alloc: Global, name: &Name) -> Result<Option<Vec<u8>>, AllocErro
     Ok(Some(write_plain(alloc, name, false)?))
 }
 
-// The name by which a part is asked for, whose packet has this name.
+// The name by which a part is asked for, where its packet has the name `name`.
 fn asked_name(
     alloc: Global,
     part: Part,

@@ -68,7 +68,7 @@ impl Model for Capturing {
 }
 
 impl Capturing {
-    // Nothing is written.
+    // A capture before the first line.
     pub fn new(alloc: Global) -> Capturing
         ensures { result ≡ nothing_captured }
     {
@@ -91,7 +91,7 @@ impl Capturing {
     }
 }
 
-// The frames of a line that was taken.
+// Appends the frames of a line that was taken.
 fn put_taken(
     alloc: Global,
     text: &mut Vec<u8>,

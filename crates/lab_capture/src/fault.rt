@@ -3,7 +3,7 @@ use std::alloc::AllocError;
 /// Why octets were not read as a capture.
 #[derive(Clone, Copy, Debug, PartialEq, Eq)]
 pub enum CaptureFault {
-    /// They are no capture of whole frames between stations.
+    /// The octets are no capture of whole frames between stations.
     NoCapture,
     NoMemory,
 }

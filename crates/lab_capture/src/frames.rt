@@ -26,7 +26,7 @@ use repo_plan::Part;
 use script_lang::{Line, Words};
 use std::alloc::AllocError;
 
-// The frame of a packet that is sent at the time of the world.
+// Appends the frame of a packet that is sent at the time of the world.
 pub(crate) fn put_sent(
     out: &mut Vec<u8>,
     world: &World,
@@ -45,7 +45,7 @@ pub(crate) fn put_sent(
     put_frame(out, &Frame::at(world.now(), source, destination, packet))
 }
 
-// The same, if there is a packet.
+// Appends the frame of a packet that is sent at the time of the world, if there is a packet.
 pub(crate) fn put_if(
     out: &mut Vec<u8>,
     world: &World,
@@ -85,7 +85,7 @@ pub(crate) fn mirror_at(world: &World, i: u32) -> Station
     Station::Mirror(i as u8)
 }
 
-// The sync Interest of a number, from its sender, if there is one.
+// Appends the frame of sync Interest `k` to the station `to`, if it was sent.
 fn put_sync(out: &mut Vec<u8>, world: &World, to: Station, k: u32) -> Result<(), AllocError>
     requires { IsStation to }
     ensures { OnOk result (out.new.items ≡ out.old.items
@@ -109,7 +109,7 @@ fn sender_at(world: &World, k: u32) -> Option<Station>
     }
 }
 
-// The sync Interests that were sent since so many were, each to all.
+// Appends the frames of the sync Interests that were sent after the first `sent` ones, each to all members.
 fn put_new_syncs(out: &mut Vec<u8>, world: &World, sent: u32) -> Result<(), AllocError>
     ensures { OnOk result (out.new.items ≡ out.old.items
         ++ frames_text (new_syncs world.now.keys (world_of world.now) sent)) }
@@ -122,7 +122,8 @@ fn put_new_syncs(out: &mut Vec<u8>, world: &World, sent: u32) -> Result<(), Allo
     Ok(())
 }
 
-// The want of a claim goes to the member that is asked. Where the part is held after that, its packet comes back.
+// Appends the frames of a claim: the Interest to the member that is asked, and the packet back, if the asker holds the
+// part now.
 fn put_claim(out: &mut Vec<u8>, world: &World, claim: &Option<Claim>) -> Result<(), AllocError>
     ensures { OnOk result (out.new.items ≡ out.old.items
         ++ frames_text (claim_frames world.now.keys (world_of world.now) (option_map claimed claim.now))) }
@@ -170,7 +171,7 @@ pub(crate) fn is_member(world: &World, m: u32) -> bool
     (m as usize) < world.members()
 }
 
-// The sync Interest of a number reaches a member.
+// Appends the frame of sync Interest `k` to a member, if a member is given.
 fn put_delivered(out: &mut Vec<u8>, world: &World, k: u32, m: Option<u32>) -> Result<(), AllocError>
     requires { IfSome m (λ m. m < length world.now.members) }
     ensures { OnOk result (out.new.items ≡ out.old.items
@@ -182,7 +183,7 @@ fn put_delivered(out: &mut Vec<u8>, world: &World, k: u32, m: Option<u32>) -> Re
     }
 }
 
-// The same to a mirror.
+// Appends the frame of sync Interest `k` to a mirror, if a mirror is given.
 fn put_mirrored(out: &mut Vec<u8>, world: &World, k: u32, i: Option<u32>) -> Result<(), AllocError>
     requires { IfSome i (λ i. i < length world.now.mirrors) }
     ensures { OnOk result (out.new.items ≡ out.old.items
@@ -194,7 +195,7 @@ fn put_mirrored(out: &mut Vec<u8>, world: &World, k: u32, i: Option<u32>) -> Res
     }
 }
 
-// Octets from outside reach a member.
+// Appends the frame of octets from outside to a member, if a member is given.
 fn put_brought(
     out: &mut Vec<u8>,
     world: &World,
@@ -211,7 +212,8 @@ fn put_brought(
     }
 }
 
-// They ask it for something, and where it has that, its packet comes back.
+// Appends the frames of octets from outside that ask a member for something: the octets, and the packet that the member
+// serves.
 fn put_asked(
     out: &mut Vec<u8>,
     world: &World,
@@ -236,7 +238,7 @@ fn put_asked(
     )
 }
 
-// What a member serves of octets that ask for something, if they do.
+// The packet that a member serves where octets ask for it, of the packets of the parts that it holds.
 fn served_by<'w>(world: &'w World, m: u32, octets: &[u8]) -> Option<&'w [u8]>
     requires { m < length world.now.members }
     ensures { option_map (λ p. p.now) result
@@ -249,7 +251,7 @@ fn served_by<'w>(world: &'w World, m: u32, octets: &[u8]) -> Option<&'w [u8]>
     }
 }
 
-// The frames of what a line says itself.
+// Appends the frames of a `deliver`, `mdeliver`, `hear`, `feed` or `ask` line.
 fn put_said(
     out: &mut Vec<u8>,
     words: &Words,
@@ -292,7 +294,7 @@ fn put_said_of(
     }
 }
 
-// The frames of a line, of which this was known before it.
+// Appends the frames of a line, where `known` was known before it.
 pub(crate) fn put_frames(
     out: &mut Vec<u8>,
     words: &Words,
@@ -314,7 +316,7 @@ pub(crate) fn put_frames(
     put_new_stored(out, world, &known.mirrors)
 }
 
-// The packets of a claim, of a fetch and of a settle.
+// Appends the frames of a claim, of a fetch and of a settle.
 fn put_gains(out: &mut Vec<u8>, world: &World, known: &KnownBefore) -> Result<(), AllocError>
     ensures { OnOk result (out.new.items ≡ out.old.items
         ++ frames_text (gains world.now.keys (world_of world.now) (known_as known.now))) }
@@ -324,7 +326,7 @@ fn put_gains(out: &mut Vec<u8>, world: &World, known: &KnownBefore) -> Result<()
     put_new_parts(out, world, &known.holders)
 }
 
-// The packets of a fetch, in order of the parts.
+// Appends the frames of a fetch, in order of the parts.
 fn put_fetch(out: &mut Vec<u8>, world: &World, fetch: &Option<Fetch>) -> Result<(), AllocError>
     ensures { OnOk result (out.new.items ≡ out.old.items
         ++ frames_text (fetch_frames world.now.keys (world_of world.now) (option_map fetched fetch.now))) }
@@ -348,7 +350,7 @@ fn put_all(out: &mut Vec<u8>, world: &World, m: u32, jobs: &[Job]) -> Result<(),
     Ok(())
 }
 
-// The packets of a part that a member asked all for.
+// Appends the frames of a part for which the member `m` asked all members; none where it doesn't hold the part now.
 fn put_came(out: &mut Vec<u8>, world: &World, m: u32, job: &Job) -> Result<(), AllocError>
     requires { m < length world.now.members }
     ensures { OnOk result (out.new.items ≡ out.old.items
@@ -360,7 +362,7 @@ fn put_came(out: &mut Vec<u8>, world: &World, m: u32, job: &Job) -> Result<(), A
     }
 }
 
-// The same where its packet came.
+// Appends the frames of a part for which the member `m` asked all members, with the packet that answered.
 fn put_packet(
     out: &mut Vec<u8>,
     world: &World,
@@ -380,7 +382,7 @@ fn put_packet(
     }
 }
 
-// An Interest of a member to all, and a packet from its publisher.
+// Appends the frames of an Interest of the member `m` to all members, and of the packet from its publisher.
 fn put_answered(
     out: &mut Vec<u8>,
     world: &World,

@@ -1,4 +1,4 @@
-// The packets that members got in a settle.
+// The packets that members gained in a settle.
 ghost use Rattle.std.specs.Prelude.{◌≡◌, ◌<◌, ◌++◌, length, map, OnOk, Some};
 ghost use Rattle.std.specs.List.{flat_map};
 ghost use Rattle.bench_world.specs.Worlds.{world_of};
@@ -16,7 +16,7 @@ use bench_world::World;
 use repo_plan::Part;
 use std::alloc::AllocError;
 
-// The parts that members hold and didn't hold, in order.
+// Appends the frames of the parts that members hold and didn't hold before, in order.
 pub(crate) fn put_new_parts(
     out: &mut Vec<u8>,
     world: &World,
@@ -31,7 +31,7 @@ pub(crate) fn put_new_parts(
     Ok(())
 }
 
-// Those of one member, if there is one.
+// Appends the frames of the parts that one member holds and didn't hold before, if there is such a member.
 fn put_holder(out: &mut Vec<u8>, world: &World, holder: &Holding) -> Result<(), AllocError>
     ensures { OnOk result (out.new.items ≡ out.old.items
         ++ frames_text (new_parts world.now.keys (world_of world.now) (holder_of holder.now))) }
@@ -43,7 +43,7 @@ fn put_holder(out: &mut Vec<u8>, world: &World, holder: &Holding) -> Result<(), 
     }
 }
 
-// The parts that a member holds and that aren't among these.
+// Appends the frames of the parts that a member holds and that aren't in `held`.
 fn put_all_new(out: &mut Vec<u8>, world: &World, m: u32, held: &HeldParts) -> Result<(), AllocError>
     requires { m < length world.now.members }
     ensures { OnOk result (out.new.items ≡ out.old.items
@@ -59,7 +59,7 @@ fn put_all_new(out: &mut Vec<u8>, world: &World, m: u32, held: &HeldParts) -> Re
     Ok(())
 }
 
-// A part that a member holds, if it isn't among these.
+// Appends the frames of a part that a member holds, if it isn't in `held`.
 fn put_new_part(
     out: &mut Vec<u8>,
     world: &World,
@@ -80,7 +80,7 @@ fn put_new_part(
     }
 }
 
-// A packet reached who asked for it, if there is its publisher.
+// Appends the frames of a packet that the station `who` gained, if its publisher is a member.
 pub(crate) fn put_gained_if(
     out: &mut Vec<u8>,
     world: &World,
@@ -99,7 +99,8 @@ pub(crate) fn put_gained_if(
     }
 }
 
-// A packet reached who asked all for it, and the publisher answered.
+// Appends the frames of a packet that the station `who` gained: the Interest for it to all members, if it can be asked
+// for, and the packet from the publisher.
 fn put_gained(
     out: &mut Vec<u8>,
     world: &World,
@@ -116,7 +117,7 @@ fn put_gained(
     put_sent(out, world, member_at(world, part.publisher), who, packet)
 }
 
-// The Interest that asks all for a part, if it can be asked for.
+// Appends the frame of the Interest that asks all members for a part, if it can be asked for.
 fn put_asking(
     out: &mut Vec<u8>,
     world: &World,

@@ -40,7 +40,7 @@ impl Model for HeldParts {
 }
 
 impl HeldParts {
-    // All parts that are held.
+    // All parts that `holder` holds.
     pub(crate) fn of<H: HasParts>(alloc: Global, holder: &H) -> Result<HeldParts, AllocError>
         ghost held: { List Part }
         requires { AreHeld (H.has holder.now) held }
@@ -55,7 +55,7 @@ impl HeldParts {
         Ok(HeldParts { parts })
     }
 
-    // Whether the part is among these.
+    // Whether the part is one of the parts that are held.
     pub(crate) fn has(&self, part: Part) -> bool
         ensures { result ≡ contains part_cmp self.now part }
     {
@@ -73,7 +73,7 @@ pub(crate) fn next_held<H: HasParts>(holder: &H, after: Option<Part>) -> Option<
     holder.least_from(following(after))
 }
 
-// The least part after that, or the least of all.
+// The least part after `after`, or the least of all where none is given.
 fn following(after: Option<Part>) -> Part
     requires { IfSome after (λ t. t.part < 65535) }
     ensures { (t : Part) → is_from result t ≡ is_after after t }
@@ -98,7 +98,7 @@ pub(crate) struct Holding {
     pub held: HeldParts,
 }
 
-// Who gains what others hold in a line: all members where the group settles.
+// The members that gain parts in a line, with what they hold before it: all members where the group settles, else none.
 pub(crate) fn holders_before(
     alloc: Global,
     world: &World,

@@ -31,7 +31,7 @@ pub(crate) struct Claim {
     pub interest: Vec<u8>,
 }
 
-// What a fetch asks all for: the jobs that a member plans.
+// A fetch: the member `asker`, which asks all members, and the jobs that it plans.
 #[derive(Drop)]
 pub(crate) struct Fetch {
     pub asker: u32,
@@ -39,7 +39,7 @@ pub(crate) struct Fetch {
 }
 
 // What is known before a line: how many sync Interests were sent, the claim that the line sends, the fetch that it
-// makes, and which members and mirrors gain what others hold.
+// makes, and the members and mirrors that gain parts, with what they hold.
 #[derive(Drop)]
 pub(crate) struct KnownBefore {
     pub sent: u32,
@@ -50,7 +50,7 @@ pub(crate) struct KnownBefore {
 }
 
 impl KnownBefore {
-    // Before the first event.
+    // What is known before the first event.
     pub fn nothing(alloc: Global) -> KnownBefore
         ensures { known_as result ≡ nothing_known }
     {
@@ -96,7 +96,7 @@ pub(crate) fn known_before(
 // How many parts a fetch asks for at most.
 const MOST_JOBS: usize = 4096;
 
-// What a line states, which has no line feed here; nothing where it is no line.
+// What a line states, which is given without its line feed; nothing where it can't be read as a line.
 pub(crate) fn read(alloc: Global, line: &[u8]) -> Result<Option<Line>, AllocError>
     ensures { IfOk result (λ read. option_map stated read ≡ stated_in line.now) }
 {
@@ -248,7 +248,7 @@ fn fetch_of(
     }
 }
 
-// The fetch of a member, if there is one.
+// The fetch of a member, if a member is given.
 fn fetch_by(alloc: Global, world: &World, asker: Option<u32>) -> Result<Option<Fetch>, AllocError>
     requires { IfSome asker (λ m. m < length world.now.members) }
     ensures { IfOk result (λ fetch. option_map fetched fetch

@@ -25,16 +25,16 @@ pub fn answers_are_read_in_reports()
         ≡ Some answer }
 {}
 
-/// Each sync Interest that is shown was sent, and its frame is from the member that sent it: of those that a line sends
-/// to all, and of one that comes to a member or a mirror.
+/// Each sync Interest that a frame has was sent, and the frame's source is the member that sent it: in the frames to
+/// all members, and in those to one member or one mirror.
 pub fn sync_frames_were_sent()
     ensures new { (g : GroupKeys) → (w : World) → (sent : ℕ) → All (WasSent g w) (new_syncs g w sent) }
     ensures heard { (g : GroupKeys) → (w : World) → (k : ℕ) → (kind : ℕ → Station) → (i : Option ℕ)
         → All (WasSent g w) (sync_to_some g w k kind i) }
 {}
 
-/// In each frame of what came in a line, by an answer, a fetch or a settle, is an Interest, or the packet of a part
-/// that the member or mirror whom the frame is for holds after the line.
+/// In each frame of parts that are gained in a line, by an answer, a fetch or a settle, is an Interest, or the packet
+/// of a part that the frame's destination, a member or a mirror, holds after the line.
 pub fn arrivals_are_held()
     ensures { (before after : State) → (line : List ℕ) → (w : World)
         → All (AsksOrBrings after.keys w after.mirrors) (arrivals after (known_before before line) w) }

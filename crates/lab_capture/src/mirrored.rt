@@ -1,4 +1,4 @@
-// The packets that mirrors got.
+// The packets that mirrors gained.
 ghost use Rattle.std.specs.Prelude.{◌≡◌, ◌<◌, ◌++◌, length, map, IfOk, IfSome, OnOk};
 ghost use Rattle.std.specs.Option.{option_map};
 ghost use Rattle.std.specs.List.{flat_map};
@@ -19,7 +19,7 @@ use repo_plan::Part;
 use script_lang::{Line, Words};
 use std::alloc::{AllocError, Global};
 
-// Which mirrors ask for parts in a line, with the parts whose packets they store.
+// The mirrors that ask for parts in a line, with the parts whose packets they store before it.
 pub(crate) fn mirrors_before(
     alloc: Global,
     words: &Words,
@@ -51,7 +51,7 @@ fn mirrors_of(
     }
 }
 
-// A mirror with those parts, if there is one.
+// A mirror with the parts whose packets it stores, if a mirror is given.
 fn mirror_if(alloc: Global, world: &World, mirror: Option<u32>) -> Result<Vec<Holding>, AllocError>
     requires { IfSome mirror (λ i. i < length world.now.mirrors) }
     ensures { IfOk result (λ holders. map holder_of holders.items
@@ -67,7 +67,7 @@ fn mirror_if(alloc: Global, world: &World, mirror: Option<u32>) -> Result<Vec<Ho
     }
 }
 
-// All mirrors with those parts.
+// All mirrors with the parts whose packets they store.
 fn all_mirrors(alloc: Global, world: &World) -> Result<Vec<Holding>, AllocError>
     ensures { IfOk result (λ holders. map holder_of holders.items
         ≡ map (mirror_in (world_of world.now) (map mirror_as world.now.mirrors))
@@ -94,7 +94,7 @@ fn mirror_in(alloc: Global, world: &World, mirror: u32) -> Result<Holding, Alloc
     })
 }
 
-// The parts whose packets mirrors store and didn't store, in order.
+// Appends the frames of the parts whose packets mirrors store and didn't store before, in order.
 pub(crate) fn put_new_stored(
     out: &mut Vec<u8>,
     world: &World,
@@ -110,7 +110,7 @@ pub(crate) fn put_new_stored(
     Ok(())
 }
 
-// Those of one mirror, if there is one.
+// Appends the frames of the parts whose packets one mirror stores and didn't store before, if there is such a mirror.
 fn put_mirror(out: &mut Vec<u8>, world: &World, mirror: &Holding) -> Result<(), AllocError>
     ensures { OnOk result (out.new.items ≡ out.old.items
         ++ frames_text (mirror_parts world.now.keys (world_of world.now) (map mirror_as world.now.mirrors)
@@ -123,7 +123,7 @@ fn put_mirror(out: &mut Vec<u8>, world: &World, mirror: &Holding) -> Result<(), 
     }
 }
 
-// The parts whose packets a mirror stores and that aren't among these.
+// Appends the frames of the parts whose packets a mirror stores and that aren't in `held`.
 fn put_all_stored(
     out: &mut Vec<u8>,
     world: &World,
@@ -145,7 +145,7 @@ fn put_all_stored(
     Ok(())
 }
 
-// A part whose packet a mirror stores, if it isn't among these.
+// Appends the frames of a part whose packet a mirror stores, if the part isn't in `held`.
 fn put_stored(
     out: &mut Vec<u8>,
     world: &World,
@@ -167,7 +167,7 @@ fn put_stored(
     }
 }
 
-// The packet of a part that a mirror stores.
+// The packet of a part, if the mirror `i` stores it.
 fn mirror_packet(world: &World, i: u32, part: Part) -> Option<&[u8]>
     requires { i < length world.now.mirrors }
     ensures { option_map (λ p. p.now) result ≡ mirror_packet world.now.keys (world_of world.now)

@@ -13,7 +13,7 @@ use std::alloc::Global;
 
 /// The frames of a capture of whole frames between stations, as `put_capture_head` and `put_frame` write one.
 pub fn read_capture(alloc: Global, octets: &[u8]) -> Result<Vec<Frame<'_>>, CaptureFault>
-    // They are the only ones that these octets are a capture of.
+    // These frames are the only ones whose capture the octets are.
     ensures frames { IfOk result (λ frames. octets.now ≡ capture_octets (map framed frames.items)) }
     ensures are { IfOk result (λ frames. All IsFrame (map framed frames.items)) }
     ensures refused { IfErr result (λ fault. (fault ≡ CaptureFault.NoMemory)
@@ -38,7 +38,7 @@ pub fn read_capture(alloc: Global, octets: &[u8]) -> Result<Vec<Frame<'_>>, Capt
     Ok(frames)
 }
 
-// The frame whose record begins octets, if one's does, and what follows it.
+// The frame whose record `octets` begin with, if they begin with one, and what follows it.
 fn first_frame(octets: &[u8]) -> Option<(Frame<'_>, &[u8])>
     ensures read { MatchOption result (first_frame octets.now ≡ None)
         (λ x. first_frame octets.now ≡ Some (framed x.0, x.1.now)) }
@@ -66,14 +66,15 @@ fn first_frame(octets: &[u8]) -> Option<(Frame<'_>, &[u8])>
     Some((frame, rest))
 }
 
-// How many octets of a frame follow, and how many it has: it is whole, and has as many as one may have.
+// `captured`, how many octets of a frame follow, is `count`, how many it has, and a frame of a capture may have that
+// many.
 fn is_size(captured: u32, count: u32) -> bool
     ensures { result ≡ is_size captured count }
 {
     captured == count && (FRAME_HEAD_LEN <= count && count <= SNAP_LEN)
 }
 
-// Each of the following takes a field, and gives what follows it too.
+// Each of the following functions takes a field from the beginning of octets, and returns what follows it too.
 
 #[tactic(auto, unfolding(crate::specs::Reading::number_at))]
 fn take_number(octets: &[u8]) -> Option<(u32, &[u8])>

@@ -23,7 +23,7 @@ use repo_object::{OBJECT_NAME_LIMIT, key_name};
 use script_lang::{Line, Words};
 use std::alloc::{AllocError, Global};
 
-// The frames of a line that gives a member a command, which has this report.
+// Appends the frames of a line that gives a member a command, by what the line states, if anything, and by its report.
 pub(crate) fn put_replies(
     out: &mut Vec<u8>,
     words: &Words,
@@ -86,7 +86,7 @@ fn put_replies_of(
     }
 }
 
-// Octets from outside are a member's order.
+// Appends the frames of an `order` line: octets from outside to a member, and its reply.
 fn put_ordered(
     out: &mut Vec<u8>,
     world: &World,
@@ -104,7 +104,7 @@ fn put_ordered(
     }
 }
 
-// A client gives a member a command.
+// Appends the frames of a client's command and of the member's reply.
 fn put_commanded(
     out: &mut Vec<u8>,
     words: &Words,
@@ -150,7 +150,7 @@ fn put_made(
     put_exchanged(out, world, client_at(world, client), m, &octets, report)
 }
 
-// Octets go to a member, and its reply goes back, if there is one.
+// Appends the frames of octets from the station `client` to the member `m`, and of the member's reply, if there is one.
 fn put_exchanged(
     out: &mut Vec<u8>,
     world: &World,
@@ -172,7 +172,7 @@ fn put_exchanged(
     put_if(out, world, member, client, reply.as_deref())
 }
 
-// The packet that replies to octets, if the member gave this answer to them.
+// The packet by which the member `m` replies to octets, if it gave an answer to them.
 fn reply_of(
     world: &World,
     m: u32,
@@ -227,7 +227,7 @@ fn client_at(world: &World, client: u32) -> Station
     Station::Client(client as u8)
 }
 
-// Whether a command names nothing longer than objects' names are.
+// Whether the name in a command is no longer than an object's name may be.
 fn is_short(command: &Command) -> bool
     ensures { result ≡ is_short command.now }
 {

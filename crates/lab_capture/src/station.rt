@@ -8,7 +8,7 @@ pub enum Station {
     Member(u8),
     Mirror(u8),
     Client(u8),
-    /// Who is no member and no client, and sends octets from outside.
+    /// A station that is no member and no client, and sends octets from outside.
     Outside,
     /// All members at once.
     AllMembers,
@@ -43,7 +43,7 @@ pub(crate) fn station_of(octets: &[u8; 6]) -> Option<Station>
     }
 }
 
-// The only station whose address can end with these two octets.
+// The only station whose address can end with the octets `kind` and `number`.
 fn numbered(kind: u8, number: u8) -> Station
     ensures station { IsStation result }
     ensures numbered { result ≡ numbered kind number }

@@ -43,7 +43,7 @@ pub fn put_frame(out: &mut Vec<u8>, frame: &Frame<'_>) -> Result<(), AllocError>
     written
 }
 
-// The same, where memory may run out after a part of it.
+// Appends the record of a frame. Where memory runs out, a part of it may be appended.
 fn write_frame(out: &mut Vec<u8>, frame: &Frame<'_>) -> Result<(), AllocError>
     requires { IsFrame (framed frame.now) }
     ensures ok { OnOk result (out.new.items ≡ out.old.items ++ frame_record (framed frame.now)) }

@@ -35,7 +35,7 @@ use Rattle.lab_lines.proofs.Runs.{fails_real, halts_real, halts_text, held_parts
 use Rattle.lab_lines.proofs.Runs.{read_grows}
 use Rattle.lab_lines.proofs.Runs.{with_with}
 
--- what was taken of an input, of which this is left
+-- what was taken of an input, of which `rest` is unread
 taken_is : (input prefix rest : List ℕ) → input ≡ prefix ++ rest → taken input rest ≡ prefix
 taken_is input prefix rest whole =
     let size : length input - length rest ≡ length prefix = omega (arith, ap length whole, length-append prefix rest) in
@@ -96,13 +96,13 @@ module _ {M : Type 0} (f : FormOf M) (env : RunEnvironment) (begun : M) (held : 
     gained = so_far.gained;
   }
 
-  -- the whole run, by what it makes of what was not passed
+  -- the result of the whole run, by that of the lines that were not passed
   run_is : (more : List ℕ) → input ≡ so_far.octets ++ more → ran_over f env begun (lines input)
       ≡ with_text so_far.text (ran_from f env p m (lines more))
   run_is more parts = ap (λ (t : List ℕ). ran_over f env begun (lines t)) parts
       ∙ ap (ran_over f env begun) (so_far.cut more) ∙ so_far.goes (lines more)
 
-  -- the lines so far, where so much was taken after those that were passed
+  -- the lines so far, where the octets `more` were taken after the lines that were passed
   so_far_is : (more now : List ℕ) → input ≡ (so_far.octets ++ more) ++ now
       → lines_so_far (taken input now) ≡ so_far.done ++ filter can_be_evaluated (lines more)
   so_far_is more now parts = rw (taken_is input (so_far.octets ++ more) now parts)
@@ -202,7 +202,7 @@ module _ {M : Type 0} (f : FormOf M) (env : RunEnvironment) (begun : M) (held : 
             ∙ append-nil so_far.text in
             subst (GainsText a b) (sym text) so_far.gained
 
-  -- it fell short at a line
+  -- the run failed at a line
   pub run_failed : (d : Option (List ℕ)) (count : ℕ) (status : LabStatus) → HasLine count held
       → Fails f env p m (take count held) b d status → RunEnds f env begun a d status input rest
   run_failed d count status h fails =
@@ -274,7 +274,7 @@ module _ {M : Type 0} (f : FormOf M) (env : RunEnvironment) (begun : M) (held : 
         };
       }
 
-  -- the run came to the end of its input
+  -- the run reached the end of its input
   pub run_finished : (d : Option (List ℕ)) (status : LabStatus) → rest ≡ [] → length held ≤ 65536 → IsSettled status
       → Ends (outcome_of f (ran_from f env p m (lines held))) b d status
       → RunEnds f env begun a d status input rest

@@ -34,7 +34,7 @@ same_passed a b lines octets reached =
     let by_reached : Reached → Passed = λ r. record { lines = b.lines; octets = b.octets; reached = r } in
     ap by_lines lines ∙ ap by_octets octets ∙ ap by_reached reached
 
--- the script stops at a line, of which so much is reported
+-- the script stops at a line for the reason `why`
 pub record StopsSo {M : Type 0} (f : FormOf M) (env : RunEnvironment) (p : Passed) (m : M) (line : List ℕ)
     (why : LineError)
     : Type 0 where
@@ -93,7 +93,7 @@ module _ {M : Type 0} (f : FormOf M) (env : RunEnvironment) (p : Passed) (m : M)
       gained = nothing_gained a;
     }
 
-    -- what the form keeps before it
+    -- what the form keeps before the line
     abbrev k : M
     k = looked f p m line
 
@@ -113,7 +113,7 @@ module _ {M : Type 0} (f : FormOf M) (env : RunEnvironment) (p : Passed) (m : M)
         gained = gained;
       }
 
-      -- what the form writes of it was not written whole
+      -- what the form writes of the line was not written whole
       pub fails_taken : (a b : Option (List ℕ)) (status : LabStatus)
           → FallsShort (f.text k (taken_line p line report next)) a b status → Fails f env p m line a b status
       fails_taken a b status short = record {
@@ -201,7 +201,7 @@ module _ {M : Type 0} (f : FormOf M) (env : RunEnvironment) (p : Passed) (m : M)
       over_stop number is over written =
           let P : ℕ → Type 0 = λ i. IsStopWritten f i line why k n a b over in over_at over (subst P is written)
 
-    -- or memory ran out before that
+    -- the script stops at the line, or memory ran out before
     pub over_stopped : (why : LineError) (verdict : Verdict) → next_line env p line ≡ scripted verdict
         → IsLineError verdict why
         → (totals : Totals) → totals.lines ≡ p.lines + 1 → totals.octets ≡ p.octets + length line → (n : M)

@@ -98,7 +98,7 @@ not_ended (b ∷ bs) free = elim (cases_Bool (eqb (get_or (b ∷ bs) (length (b 
       (list_any_at (λ octet. eqb octet 10) (b ∷ bs) (length (b ∷ bs) - 1) 0 (omega arith) feed))
 ]
 
--- what is left of octets without their line feed has those that have none for a prefix
+-- the octets without their line feed begin with `prefix`
 pub record WithoutFeed (prefix more : List ℕ) : Type 0 where
   pub rest : List ℕ
   pub is : without_feed (prefix ++ more) ≡ prefix ++ rest
@@ -128,7 +128,7 @@ module _ (prefix : List ℕ) (long : IsTooLong prefix) where
   pub long_some : prefix ≢ []
   long_some e = let none = ap length e in omega (arith, none, long.long)
 
-  -- it is beyond the limits, whatever follows,
+  -- a line that is too long is beyond the limits, whatever follows
   pub long_beyond : (passed octets : ℕ) (more : List ℕ) → fits passed octets (prefix ++ more) ≡ false
   long_beyond passed octets more =
       let t = feed_taken prefix more long.free in
@@ -139,7 +139,7 @@ module _ (prefix : List ℕ) (long : IsTooLong prefix) where
       let short = leb (length (without_feed (prefix ++ more))) 32768 in
       and_right (ltb passed 1000000) (small && short) (and_right small short test)
 
-  -- shown alike,
+  -- a line that is too long is shown alike, whatever follows
   pub long_shown : (more : List ℕ) → shown_text (prefix ++ more) ≡ shown_text prefix
   long_shown more =
       let t = feed_taken prefix more long.free in
@@ -147,7 +147,7 @@ module _ (prefix : List ℕ) (long : IsTooLong prefix) where
       ap (take 32769) t.is ∙ take-append-le 32769 prefix t.rest size
       ∙ sym (ap (take 32769) (rw (not_ended prefix long.free) refl))
 
-  -- and evaluated
+  -- a line that is too long can be evaluated, whatever follows
   pub long_judged : (more : List ℕ) → can_be_evaluated (prefix ++ more) ≡ true
   long_judged more = or_right (has_feed (prefix ++ more)) (ltb 32768 (length (prefix ++ more)))
       (lt-ltb 32768 (length (prefix ++ more)) (omega (arith, length-append prefix more, long.long)))

@@ -35,7 +35,7 @@ use Rattle.lab_lines.proofs.Folds.{by_next, evaluated_line, line_beyond, noted_l
 
 -- ---- what fits
 
--- so many lines may follow
+-- after `passed` lines and `size` octets these lines may follow
 pub record Room (passed size : ℕ) (ls : List (List ℕ)) : Type 0 where
   pub lines : passed + length ls ≤ most_lines
   pub octets : size + length (concat ls) ≤ most_octets
@@ -99,12 +99,12 @@ passed_notes : Passed → List (List ℕ) → Passed
 passed_notes q [] = q
 passed_notes q (t ∷ ts) = passed_notes (after_note q (report_note t)) ts
 
--- what a form keeps after them
+-- what a form keeps after notes
 unfoldable pub with_notes : {M : Type 0} → FormOf M → M → List (List ℕ) → M
 with_notes g n [] = n
 with_notes g n (t ∷ ts) = with_notes g (g.note n (report_note t)) ts
 
--- what is left after them
+-- the lines `ls` that follow the notes `ts`, and what was passed before them
 record AfterNotes (q : Passed) (ts ls : List (List ℕ)) : Type 0 where
   same : (passed_notes q ts).reached ≡ q.reached
   room : Room (passed_notes q ts).lines (passed_notes q ts).octets ls
@@ -134,7 +134,7 @@ module _ {M : Type 0} (g : FormOf M) (env : RunEnvironment) where
       (room_more q.lines q.octets (report_note t) others room) (notes_more (report_note t) others notes)
 
 module _ {M : Type 0} (g : FormOf M) where
-  -- the same after the line that stops the script
+  -- what a form keeps after the notes at the end, after the line that stops the script
   pub notes_end : (passed octets : ℕ) (n : M) (ts : List (List ℕ)) → Room passed octets (map report_note ts)
       → notes_fit (map report_note ts) ≡ true → after_notes g passed octets n (map report_note ts) ≡ with_notes g n ts
   unfolding after_notes with_notes
@@ -147,7 +147,7 @@ module _ {M : Type 0} (g : FormOf M) where
 
 -- ---- a form that finds in the notes what was reported
 
--- It keeps a value of which something holds, and writes of a line what a function gives of its text in the transcript.
+-- The form keeps a value for which `Q` holds, and writes of a line what `kept` gives of its text in the transcript.
 pub record ReadsAgain {M : Type 0} (g : FormOf M) (kept : List ℕ → List ℕ) (Q : M → Type 0) : Type 0 where
   pub none : kept [] ≡ []
   pub joined : (x y : List ℕ) → kept (x ++ y) ≡ kept x ++ kept y
@@ -167,7 +167,7 @@ pub data AreWhole : List (List ℕ) → Type 0 where
 abbrev transcribed : RunEnvironment → Passed → List (List ℕ) → Ran (Unit {0})
 transcribed env p ls = ran_from transcript_form env p (tt {0}) ls
 
--- a form over the transcript of lines comes to the same end
+-- a form over the transcript of lines has the same ending
 pub record SameEnd {M : Type 0} (kept : List ℕ → List ℕ) (Q : M → Type 0) (was : Ran (Unit {0})) (now : Ran M)
     : Type 0 where
   pub text : now.text ≡ kept was.text
@@ -210,7 +210,7 @@ module _ (line : List ℕ) (w : IsWhole line) where
   short_again : length (without_feed line) ≤ 32768 → shown_again_line line ≡ line
   short_again short = again_is ∙ shown_of_whole line w (omega (arith, short))
 
-  -- it is evaluated as the line was
+  -- the line of the transcript is evaluated as the line was
   module _ (env : RunEnvironment) (p q : Passed) (same : q.reached ≡ p.reached) (ls more : List (List ℕ))
       (room : Room p.lines p.octets (line ∷ ls)) (again : Room q.lines q.octets (shown_again_line line ∷ more)) where
     long_again : 32768 < length (without_feed line) → 32768 < length (without_feed (shown_again_line line))
@@ -261,7 +261,7 @@ module _ (line : List ℕ) (w : IsWhole line) where
 
 module _ (env : RunEnvironment) {M : Type 0} (g : FormOf M) (kept : List ℕ → List ℕ) (Q : M → Type 0)
     (r : ReadsAgain g kept Q) where
-  -- of lines of which the first is whole
+  -- lines of which the first is whole
   module _ (p q : Passed) (n : M) (same : q.reached ≡ p.reached) (held : Q n) (line : List ℕ) (w : IsWhole line)
       (ls : List (List ℕ)) (room : Room p.lines p.octets (line ∷ ls)) where
     number_is : q.reached.lines + 1 ≡ p.reached.lines + 1
@@ -271,7 +271,7 @@ module _ (env : RunEnvironment) {M : Type 0} (g : FormOf M) (kept : List ℕ →
     Again was = Room q.lines q.octets (lines was.text) → notes_fit (lines was.text) ≡ true
         → SameEnd kept Q was (ran_from g env q n (lines was.text))
 
-    -- the script stops at it
+    -- the script stops at the first line
     module _ (verdict : Verdict) (e : next_line env p line ≡ scripted verdict) (report : ℕ → List ℕ)
         (end : ℕ → Ending) (goes : (x : Passed) (y : M) (l : List ℕ) (others : List (List ℕ))
         → next_line env x l ≡ scripted verdict → ran_from g env x y (l ∷ others)
@@ -317,7 +317,7 @@ module _ (env : RunEnvironment) {M : Type 0} (g : FormOf M) (kept : List ℕ →
             form = r.last k at seen (q.lines + 1) (q.octets + length shown) kept_room (notes_more shown others fit);
           })
 
-    -- it is taken
+    -- the first line is taken
     module _ (report : List ℕ) (next : State) (e : next_line env p line ≡ scripted (accepted report next))
         (rest : (x y : Passed) (k : M) → y.reached ≡ x.reached → Q k → Room x.lines x.octets ls
         → Room y.lines y.octets (lines (transcribed env x ls).text)
@@ -373,7 +373,7 @@ module _ (env : RunEnvironment) {M : Type 0} (g : FormOf M) (kept : List ℕ →
             form = last.form;
           })
 
-  -- of whole lines
+  -- the form over the transcript of whole lines has the same ending
   pub read_again : (ls : List (List ℕ)) (p q : Passed) (n : M) → q.reached ≡ p.reached → Q n → AreWhole ls
       → Room p.lines p.octets ls → Room q.lines q.octets (lines (transcribed env p ls).text)
       → notes_fit (lines (transcribed env p ls).text) ≡ true

@@ -17,7 +17,7 @@ use Rattle.lab_lines.proofs.Runs.{held_parts}
 
 -- ---- a line that is passed to its end
 
--- so much of a line was passed, and none of it is a line feed
+-- the octets `octets` of a line were passed, and none of them is a line feed
 pub record Passing (old new : Totals) (entry left before now : List ℕ) : Type 0 where
   pub octets : List ℕ
   pub free : has_feed octets ≡ false
@@ -76,7 +76,7 @@ module _ (old t : Totals) (entry left before now : List ℕ) (p : Passing old t 
         );
       }
 
-      -- its end
+      -- the end of the line is passed
       pub passed_whole : IsWhole (take count left) → RestIsPassed old u entry (drop count left) (Ok tt) before now
       passed_whole whole =
           let parts : entry ++ before ≡ p.octets ++ (take count left ++ (drop count left ++ now)) =

@@ -39,7 +39,7 @@ with_with {M} x y r =
     let with_it : List ℕ → Ran M = λ t. ran t r.form r.ending r.read in
     ap with_it (sym (append_assoc x y r.text))
 
--- so many lines are read before it ends
+-- at least the lines that were passed are read before a run ends
 lines_read : {M : Type 0} (f : FormOf M) (env : RunEnvironment) (p : Passed) (m : M) (ls : List (List ℕ))
     → p.lines ≤ (ran_from f env p m ls).read
 lines_read f env p m [] = rw (no_lines f env p m) (omega arith)
@@ -74,7 +74,7 @@ module _ {M : Type 0} (f : FormOf M) (env : RunEnvironment) (p : Passed) (m : M)
   bare_stops leading long = subst (λ (t : List ℕ). StopsSo f env p m t (error.Refused Limit)) (append-nil leading)
       (long_stops leading [] long)
 
-  -- and writes the same of it, whatever of it is known
+  -- the form writes the same of a line that is too long, whatever of it is known
   long_text : (leading more : List ℕ) (others : List (List ℕ)) → IsTooLong leading
       → (ran_from f env p m ((leading ++ more) ∷ others)).text ≡ (ran_from f env p m (leading ∷ [])).text
   long_text leading more others long =
@@ -102,7 +102,7 @@ module _ {M : Type 0} (f : FormOf M) (env : RunEnvironment) (p : Passed) (m : M)
 
   module _ (line : List ℕ) (ending : Ending) (totals : Totals) (n : M) (a b : Option (List ℕ))
       (halts : Halts f env p m line ending totals n a b) where
-    -- which is too long
+    -- the line is too long
     module _ (long : IsTooLong line) where
       seen : List ℕ → Lined
       seen shown = lined (p.reached.lines + 1) shown (line_error_text (p.reached.lines + 1) (error.Refused Limit)) None
@@ -154,7 +154,7 @@ module _ {M : Type 0} (f : FormOf M) (env : RunEnvironment) (p : Passed) (m : M)
         ∙ rw (whole_ended line whole) (halts.goes (lines more))
     halts_real (inr long) more = rw (not_ended line long.free) (long_real long more)
 
-    -- what was written of it, where so much is taken of it
+    -- what was written of the line, where the octets `more` were taken after it
     pub halts_text : IsWhole line ⊎ IsTooLong line → (more : List ℕ)
         → (ran_from f env p m (filter can_be_evaluated (lines (line ++ more)))).text ≡ halts.text
     halts_text (inl whole) more =
@@ -171,7 +171,7 @@ module _ {M : Type 0} (f : FormOf M) (env : RunEnvironment) (p : Passed) (m : M)
         ap (λ (ls : List (List ℕ)). (ran_from f env p m ls).text) is ∙ long_text line tail others long
         ∙ ap (λ (r : Ran M). r.text) (halts.goes [])
 
-  -- it falls short at a line
+  -- the run fails at a line
   pub fails_real : (line : List ℕ) (a b : Option (List ℕ)) (status : LabStatus)
       → IsWhole line ⊎ IsTooLong line → Fails f env p m line a b status → (more : List ℕ)
       → GainsPrefix a b (ran_from f env p m (lines (line ++ more))).text (status ≡ WriteFault)
@@ -187,11 +187,11 @@ module _ {M : Type 0} (f : FormOf M) (env : RunEnvironment) (p : Passed) (m : M)
       let P : List ℕ → Type 0 = λ t. GainsPrefix a b t (status ≡ WriteFault) in
       subst P (sym same) (fails.prefix [])
 
-  -- fewer lines are not read before it ends
+  -- no fewer lines are read before a run ends than were passed
   pub read_grows : (ls : List (List ℕ)) → p.lines ≤ (ran_from f env p m ls).read
   read_grows ls = lines_read f env p m ls
 
--- the line with which what is held begins
+-- the line with which the octets held begin
 pub line_kind : (held : List ℕ) (count : ℕ) → HasLine count held
     → IsWhole (take count held) ⊎ IsTooLong (take count held)
 line_kind held count h = by_line h.line where

@@ -32,11 +32,11 @@ use Rattle.lab_lines.specs.Folding.{most_lines, most_octets}
 use Rattle.lab_lines.specs.Folding.{ran_from, ran_over, with_text}
 use Rattle.lab_lines.specs.Written.{WritesLines, can_be_evaluated}
 
--- So many lines and octets were passed, and this is the result of the script's lines among them.
+-- What was passed: the lines and octets of `totals`, and `reached`, the result of the script's lines among them.
 abbrev pub passed : Totals → Reached → Passed
 passed totals reached = record { lines = totals.lines; octets = totals.octets; reached = reached }
 
--- Another line can follow: the script is one, and no more lines and octets were passed than an input may have.
+-- Another line can follow: `script` is sound, and no more lines and octets were passed than an input may have.
 pub record CanGoOn (script : Script) (totals : Totals) : Type 0 where
   pub is : IsScript script
   pub lines : totals.lines ≤ most_lines
@@ -47,7 +47,7 @@ pub record CountsFaults (WriteFailed : Type 0) (old new : ℕ) : Type 0 where
   pub risen : WriteFailed → HasRisen old new
   pub kept : old ≤ new
 
--- A form ran so.
+-- The result of a form: its text, what it keeps, the ending, and how many lines were read.
 abbrev pub ran : {M : Type 0} → List ℕ → M → Ending → ℕ → Ran M
 ran text form ending read = record { text = text; form = form; ending = ending; read = read }
 
@@ -74,7 +74,7 @@ abbrev pub Writes : List ℕ → Option (List ℕ) → Option (List ℕ) → Res
 Writes text old new (Ok x) = GainsText old new text
 Writes text old new (Err status) = FallsShort text old new status
 
--- How a script ends that stops so at the line of this number.
+-- How a script ends that stops for this reason at the line of this number.
 abbrev pub IsEndingOf : ℕ → LineError → Ending → Type 0
 IsEndingOf line (error.Refused why) ending = ending ≡ an_ending.Refused line (refusal_number why)
 IsEndingOf line error.Foreign ending = ending ≡ an_ending.Foreign line
@@ -84,14 +84,15 @@ IsEndingOf line error.NoMemory ending = ⊥
 abbrev pub stopping_at : ℕ → List ℕ → LineError → Lined
 stopping_at number line why = lined number (shown_text line) (line_error_text number why) None
 
--- A form took the line at which the script stops so, and what it writes of that was written.
+-- A form took the line at which the script stops for the reason `why`, and the form's text of that line was written.
 pub record TakesStop {M : Type 0} (f : FormOf M) (number : ℕ) (line : List ℕ) (why : LineError) (m n : M)
     (old new : Option (List ℕ)) (ending : Ending) : Type 0 where
   pub ends : IsEndingOf number why ending
   pub form : n ≡ f.line m (stopping_at number line why)
   pub gained : GainsText old new (f.text m (stopping_at number line why))
 
--- The same, or it was not written whole.
+-- A form took the line at which the script stops for the reason `why`, and the form's text of that line was written, or
+-- not whole.
 abbrev pub IsStopWritten : {M : Type 0} → FormOf M → ℕ → List ℕ → LineError → M → M → Option (List ℕ) → Option (List ℕ)
     → Over → Type 0
 IsStopWritten f number line why m n old new (Stopped ending) = TakesStop f number line why m n old new ending
@@ -108,7 +109,7 @@ pub record Passes {M : Type 0} (f : FormOf M) (env : RunEnvironment) (p : Passed
   pub count : next.lines ≡ p.lines + 1
   pub gained : GainsText old new text
 
--- The script stops at the next line, and so many lines and octets were passed with it.
+-- The script stops at the next line, and `totals` counts the lines and octets that were passed with it.
 pub record Halts {M : Type 0} (f : FormOf M) (env : RunEnvironment) (p : Passed) (m : M) (line : List ℕ)
     (ending : Ending)
     (totals : Totals) (n : M) (old new : Option (List ℕ)) : Type 0 where
@@ -135,7 +136,7 @@ IsOver f env p m line totals n old new (Faulted status) = Fails f env p m line o
 
 -- ---- the end
 
--- The statuses of a form that didn't wait for its source.
+-- The statuses of a form other than `Usage` and `ReadFault`.
 abbrev pub IsSettled : LabStatus → Type 0
 IsSettled Done = ⊤
 IsSettled Usage = ⊥
@@ -152,29 +153,29 @@ pub record Ends (o : Outcome) (old new : Option (List ℕ)) (status : LabStatus)
   pub text : IsEnd status → GainsText old new o.text
   pub prefix : GainsPrefix old new o.text (status ≡ WriteFault)
 
--- Octets up to the first line feed, and it,
+-- The octets up to the first line feed, which is among them.
 unfoldable pub through_feed : List ℕ → List ℕ
 through_feed [] = []
 through_feed (octet ∷ octets) = if octet == 10 then octet ∷ [] else octet ∷ through_feed octets
 
--- and those after it.
+-- The octets after the first line feed.
 unfoldable pub after_feed : List ℕ → List ℕ
 after_feed [] = []
 after_feed (octet ∷ octets) = if octet == 10 then octets else after_feed octets
 
--- What a form keeps after the script stopped at a line that begins so, where so many lines and octets were passed with
--- that, and these octets follow.
+-- What a form keeps after the script stopped at a line that begins with `line`, where `passed` lines and `octets`
+-- octets were passed, those of `line` among them, and the octets `more` follow.
 abbrev pub after_stop_at : {M : Type 0} → FormOf M → ℕ → ℕ → M → List ℕ → List ℕ → M
 after_stop_at f passed octets m line more =
     if ends_with 10 line then after_stop f passed octets m (lines more)
     else after_stop f passed (octets + length (through_feed more)) m (lines (after_feed more))
 
--- Octets were read.
+-- The first octets of `old` were read, and `new` are the others.
 pub record HasRead (old new : List ℕ) : Type 0 where
   pub octets : List ℕ
   pub are : old ≡ octets ++ new
 
--- The statuses of a form that read notes and not to their end.
+-- The statuses of a form that didn't read the notes to their end.
 abbrev pub IsUnread : LabStatus → Type 0
 IsUnread Done = ⊥
 IsUnread Usage = ⊥
@@ -185,15 +186,15 @@ IsUnread NoMemory = ⊤
 IsUnread Foreign = ⊥
 IsUnread Differs = ⊥
 
--- So many octets are at the start of what is held, and the line ends with them or not: they are a line with its line
--- feed, they are more than a line may have and no line feed was read, or they are the last line.
+-- The first `count` octets held are a piece of a line, and `ended` says whether the line ends with them: they are a
+-- line with its line feed, they are more than a line may have and no line feed was read, or they are the last line.
 pub record IsPiece (held : List ℕ) (left : Option (List ℕ)) (count : ℕ) (ended : Bool) : Type 0 where
   pub within : count ≤ length held
   pub kind : (IsWhole (take count held) × (ended ≡ true))
       ⊎ ((IsTooLong held × (count ≡ length held) × (ended ≡ false))
       ⊎ (LineIsBegun held × (count ≡ length held) × (ended ≡ true) × IsAtEnd left))
 
--- What was left of a line was passed, or so much of it that nothing after it is within the limits.
+-- The rest of a line was passed, or so much of it that nothing after it is within the limits.
 pub record RestIsPassed (old new : Totals) (held left : List ℕ) (result : Result (Unit {0}) Failed)
     (before now : List ℕ) : Type 0 where
   pub lines : new.lines ≡ old.lines
@@ -203,13 +204,13 @@ pub record RestIsPassed (old new : Totals) (held left : List ℕ) (result : Resu
       × (left ++ now ≡ after_feed (held ++ before)))
       ⊎ ((most_octets < new.octets) × (new.octets ≤ old.octets + length (through_feed (held ++ before))))
 
--- A form took the notes with which what was left begins.
+-- A form took the notes at the beginning of the octets that were held or unread.
 pub record NotesAreRead {M : Type 0} (f : FormOf M) (totals : Totals) (m n : M) (held : List ℕ)
     (result : Result (Unit {0}) LabStatus) (before now : List ℕ) : Type 0 where
   pub read : HasRead (held ++ before) now
   pub notes : IsOk result → n ≡ after_notes f totals.lines totals.octets m (lines (held ++ before))
 
--- The same after a line, whose end was passed or not.
+-- A form took the notes right after a line, whose end was passed before where `ended` is true.
 pub record RestIsRead {M : Type 0} (f : FormOf M) (ended : Bool) (totals : Totals) (m n : M) (held : List ℕ)
     (result : Result (Unit {0}) LabStatus) (before now : List ℕ) : Type 0 where
   pub read : HasRead (held ++ before) now
@@ -218,7 +219,7 @@ pub record RestIsRead {M : Type 0} (f : FormOf M) (ended : Bool) (totals : Total
       else after_notes f totals.lines (totals.octets + length (through_feed (held ++ before))) m
       (lines (after_feed (held ++ before))))
 
--- The script stopped at a line that begins so, and the form ended.
+-- The script stopped at a line that begins with `line`, and the form ended.
 pub record EndsAfter {M : Type 0} (f : FormOf M) (ending : Ending) (passed octets : ℕ) (m : M) (line held : List ℕ)
     (old new : Option (List ℕ)) (status : LabStatus) (before now : List ℕ) : Type 0 where
   pub ends : Ends (f.end (after_stop_at f passed octets m line (held ++ before)) ending) old new status
@@ -228,7 +229,7 @@ pub record EndsAfter {M : Type 0} (f : FormOf M) (ending : Ending) (passed octet
 
 -- ---- a run
 
--- Lines were passed, and then these octets are held.
+-- Lines were passed, `p` is the result of them, and the octets `held` are read and not passed.
 pub record Carried {M : Type 0} (f : FormOf M) (env : RunEnvironment) (begun : M) (held : List ℕ) (p : Passed) (m : M)
     (old new : Option (List ℕ)) (input rest : List ℕ) : Type 0 where
   pub done : List (List ℕ)

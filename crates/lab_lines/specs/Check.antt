@@ -10,7 +10,7 @@ use Rattle.lab_text.specs.Outcomes.{Outcome}
 use Rattle.lab_lines.specs.Folding.{FormOf, Lined, form_outcome}
 
 -- The last line so far: its number, its octets and its report, and what its notes say, each as a line. Before the first
--- line it is line 0, which is empty and has no report. Of the lines before it so many differ.
+-- line it is line 0, which is empty and has no report. `differing` counts the lines before it that differ.
 pub record Checked : Type 0 where
   pub number : ℕ
   pub line : List ℕ
@@ -34,7 +34,7 @@ last_text c = line_difference_text c.number c.line (line_texts c.expected) (line
 abbrev pub differing_lines : Checked → ℕ
 differing_lines c = if is_expected c then c.differing else one_more c.differing
 
--- So it is counted.
+-- The last line is counted if it differs.
 abbrev pub counted : Checked → Checked
 counted c = record c { differing = differing_lines c }
 

@@ -18,8 +18,8 @@ use Rattle.lab_text.specs.Outcomes.{Outcome}
 -- ---- a form
 
 -- A line of the script that was carried out, or at which the script stops: its number among the script's lines, its
--- octets as they are shown, its report, and what the lines up to it came to. At a line that stops the script the report
--- is the `refused` or `foreign` line, and nothing comes after it.
+-- octets as they are shown, its report, and the state after it. At a line that stops the script the report is the
+-- `refused` or `foreign` line, and there is no state after it.
 pub record Lined : Type 0 where
   pub number : ℕ
   pub line : List ℕ
@@ -32,30 +32,30 @@ lined number line report after = record { number = number; line = line; report =
 
 -- A form, which keeps a value from line to line.
 pub record FormOf (M : Type 0) : Type 0 where
-  -- What it keeps after a note,
+  -- What it keeps after a note.
   pub note : M → List ℕ → M
-  -- before a line of the script, of what the lines before it came to and of the line as it is shown,
+  -- What it keeps before a line of the script, by the state after the lines before it and by the line as it is shown.
   pub before : M → State → List ℕ → M
-  -- and after that line.
+  -- What it keeps after a line of the script.
   pub line : M → Lined → M
-  -- What it writes of a line of the script,
+  -- What it writes of a line of the script.
   pub text : M → Lined → List ℕ
-  -- and at the end, with its status.
+  -- What it writes at the end, and its status.
   pub end : M → Ending → Outcome
   -- After a line that stops the script it reads the notes right after that line.
   pub reads_on : Bool
 
 -- ---- the lines of an input
 
--- Lines of an input, notes among them.
+-- The most lines of an input, notes among them.
 abbrev pub most_lines : ℕ
 most_lines = 1000000
 
--- Octets of an input, notes among them.
+-- The most octets of an input, notes among them.
 abbrev pub most_octets : ℕ
 most_octets = 300000000
 
--- A line more is within these limits and the length of a line, after so many lines and octets.
+-- After `lines` lines and `octets` octets one more line is within these limits, and it isn't too long.
 abbrev pub fits : ℕ → ℕ → List ℕ → Bool
 fits lines octets line = nat_lt lines most_lines
     && (nat_le (octets + length line) most_octets && nat_le (length (without_feed line)) line_octets)
@@ -70,11 +70,11 @@ pub record Passed : Type 0 where
 abbrev pub nothing_passed : Passed
 nothing_passed = record { lines = 0; octets = 0; reached = nothing_reached }
 
--- The same after one more note,
+-- What was passed, after one more note.
 abbrev pub after_note : Passed → List ℕ → Passed
 after_note p line = record { lines = p.lines + 1; octets = p.octets + length line; reached = p.reached }
 
--- and after one more line of the script, which had this report.
+-- What was passed, after one more line of the script, by its report and the state after it.
 abbrev pub after_line : Passed → List ℕ → List ℕ → State → Passed
 after_line p line report next = record {
   lines = p.lines + 1;
@@ -107,7 +107,8 @@ pub record Ran (M : Type 0) : Type 0 where
 abbrev pub with_text : {M : Type 0} → List ℕ → Ran M → Ran M
 with_text text ran = record { text = text ++ ran.text; form = ran.form; ending = ran.ending; read = ran.read }
 
--- What a form keeps after the notes with which lines begin, so many lines and octets after the beginning of the input.
+-- What a form keeps after the notes at the beginning of these lines, where `passed` lines and `octets` octets of the
+-- input were passed before them.
 unfoldable pub after_notes : {M : Type 0} → FormOf M → (passed octets : ℕ) → M → List (List ℕ) → M
 after_notes f passed octets m [] = m
 after_notes f passed octets m (line ∷ others) =
@@ -115,11 +116,12 @@ after_notes f passed octets m (line ∷ others) =
     then after_notes f (passed + 1) (octets + length line) (f.note m line) others
     else m
 
--- The same of a form that reads on. Another one reads nothing more.
+-- What a form keeps after the script stopped, where these lines follow: a form that reads on takes the notes at their
+-- beginning, and another one reads nothing more.
 abbrev pub after_stop : {M : Type 0} → FormOf M → (passed octets : ℕ) → M → List (List ℕ) → M
 after_stop f passed octets m others = if f.reads_on then after_notes f passed octets m others else m
 
--- The script stops at a line.
+-- The result of a form where the script stops at `line`.
 abbrev pub stops : {M : Type 0} → FormOf M → Passed → M → List ℕ → List (List ℕ) → Lined → Ending → Ran M
 stops f p m line others at ending = record {
   text = f.text m at;
@@ -128,7 +130,7 @@ stops f p m line others at ending = record {
   read = p.lines + 1;
 }
 
--- A line that was taken, with its report and the result of the lines up to it.
+-- A line that was taken, with its report and the state after it.
 abbrev pub taken_line : Passed → List ℕ → List ℕ → State → Lined
 taken_line p line report next = lined (p.reached.lines + 1) (shown_text line) report (Some next)
 
@@ -136,8 +138,8 @@ taken_line p line report next = lined (p.reached.lines + 1) (shown_text line) re
 abbrev pub stopping_line : Passed → List ℕ → List ℕ → Lined
 stopping_line p line report = lined (p.reached.lines + 1) (shown_text line) report None
 
--- A line of the script with this verdict, and then the others. A line that no row evaluates would end the script as
--- refused under 0, which is the number of no refusal.
+-- The result of a form over a line of the script with this verdict, and over the lines after it. A line that no row
+-- evaluates would end the script as refused under 0, which is the number of no refusal.
 abbrev pub ran_scripted : {M : Type 0} → FormOf M → (Passed → M → Ran M) → Passed → M → List ℕ → List (List ℕ) → Verdict
     → Ran M
 ran_scripted f go p m line others (accepted report next) =
@@ -156,29 +158,29 @@ ran_scripted f go p m line others not_evaluated =
 abbrev pub looked : {M : Type 0} → FormOf M → Passed → M → List ℕ → M
 looked f p m line = f.before m p.reached.state (shown_text line)
 
--- A line, and then the others.
+-- The result of a form over a line, and over the lines after it.
 abbrev pub ran_line : {M : Type 0} → FormOf M → (Passed → M → Ran M) → Passed → M → List ℕ → List (List ℕ) → NextLine
     → Ran M
 ran_line f go p m line others noted = go (after_note p line) (f.note m line)
 ran_line f go p m line others (scripted verdict) = ran_scripted f go p (looked f p m line) line others verdict
 
--- A form over lines that follow those that were passed.
+-- The result of a form over lines that follow the lines that were passed.
 unfoldable pub ran_from : {M : Type 0} → FormOf M → RunEnvironment → Passed → M → List (List ℕ) → Ran M
 ran_from f env p m [] = record { text = []; form = m; ending = ending.Done; read = p.lines }
 ran_from f env p m (line ∷ others) =
     ran_line f (λ next form. ran_from f env next form others) p m line others (next_line env p line)
 
--- A form over all lines.
+-- The result of a form over all lines.
 abbrev pub ran_over : {M : Type 0} → FormOf M → RunEnvironment → M → List (List ℕ) → Ran M
 ran_over f env m input_lines = ran_from f env nothing_passed m input_lines
 
--- The result of a form at the end.
+-- The outcome of a form: the text of the lines and that of the end, and the status.
 abbrev pub outcome_of : {M : Type 0} → FormOf M → Ran M → Outcome
 outcome_of f ran = record {
   text = ran.text ++ (f.end ran.form ran.ending).text;
   status = (f.end ran.form ran.ending).status;
 }
 
--- The result of a form over an input.
+-- The outcome of a form over an input.
 abbrev pub form_outcome : {M : Type 0} → FormOf M → RunEnvironment → M → List ℕ → Outcome
 form_outcome f env m input = outcome_of f (ran_over f env m (lines input))

@@ -13,7 +13,7 @@ use Rattle.lab_text.specs.Outcomes.{Outcome}
 use Rattle.lab_lines.specs.Folding.{most_lines, most_octets}
 use Rattle.lab_lines.specs.Transcript.{transcript_of}
 
--- No more lines and octets than an input may have, notes among them.
+-- The text has no more lines and octets than an input may have, notes among them.
 pub record IsWithin (text : List ℕ) : Type 0 where
   pub few_lines : length (lines text) ≤ most_lines
   pub few_octets : length text ≤ most_octets

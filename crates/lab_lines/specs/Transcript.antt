@@ -9,13 +9,13 @@ use Rattle.lab_text.specs.Outcomes.{Outcome}
 use Rattle.lab_text.specs.Transcripts.{line_with_report}
 use Rattle.lab_lines.specs.Folding.{FormOf, form_outcome}
 
--- The status of a script that ends so.
+-- The status of a script with this ending.
 abbrev pub status_at : Ending → LabStatus
 status_at ending.Done = Done
 status_at (ending.Refused line number) = Refused
 status_at (ending.Foreign line) = Foreign
 
--- Notes that stand in the script already are left out.
+-- The form of a transcript. The notes of the input are left out.
 abbrev pub transcript_form : FormOf (Unit {0})
 transcript_form = record {
   note = λ m note. m;

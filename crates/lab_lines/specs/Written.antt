@@ -13,13 +13,13 @@ use Rattle.lab_text.specs.declared.status.LabStatus.TheVariants.{ReadFault, Usag
 use Rattle.lab_text.specs.Outcomes.{HasCause, IsEnd, WritesOutcome}
 use Rattle.lab_lines.specs.Folding.{FormOf, form_outcome, ran_over}
 
--- What holds of an input and of what is left of it, where both are known.
+-- `P` holds of an input and of its unread octets, where both are known.
 abbrev pub Known : Option (List ℕ) → Option (List ℕ) → (List ℕ → List ℕ → Type 0) → Type 0
 Known None now P = ⊤
 Known (Some input) None P = ⊥
 Known (Some input) (Some rest) P = P input rest
 
--- The octets that were taken of an input of which these are left.
+-- The octets that were taken of `input`, of which `rest` is unread.
 abbrev pub taken : List ℕ → List ℕ → List ℕ
 taken input rest = take (length input - length rest) input
 
@@ -27,15 +27,15 @@ taken input rest = take (length input - length rest) input
 abbrev pub can_be_evaluated : List ℕ → Bool
 can_be_evaluated line = has_feed line || nat_lt line_octets (length line)
 
--- The lines of the octets so far.
+-- The lines of these octets that can be evaluated.
 abbrev pub lines_so_far : List ℕ → List (List ℕ)
 lines_so_far octets = filter can_be_evaluated (lines octets)
 
--- Where the last of so many lines ends, as a number of octets.
+-- Where the first `count` lines end, as a number of octets.
 abbrev pub end_of_lines : ℕ → List ℕ → ℕ
 end_of_lines count input = length (concat (take count (lines input)))
 
--- At most 65,536 octets past the end of so many lines were taken.
+-- At most 65,536 octets past the end of the first `count` lines were taken.
 abbrev pub IsTakenNear : ℕ → List ℕ → List ℕ → Type 0
 IsTakenNear count input rest = length input ≤ length rest + (end_of_lines count input + 65536)
 
@@ -51,11 +51,11 @@ pub record WritesLines {M : Type 0} (f : FormOf M) (env : RunEnvironment) (form 
   pub bounded : IsEnd status → f.reads_on ≡ false
       → IsTakenNear (ran_over f env form (lines input)).read input rest
 
--- A form carried out the script of an input, of which this is left: what was written, what was answered, and when.
+-- A form carried out the script of `input`, of which `rest` is unread: what was written, what was answered, and when.
 pub record CarriesOut {M : Type 0} (f : FormOf M) (env : RunEnvironment) (form : M)
     (input rest old new : Option (List ℕ)) (SourceFailed SinkFailed : Type 0) (status : LabStatus) : Type 0 where
   -- What was written is what the form makes of the input, and the status is its status, where source and sink know
-  -- their octets. Whatever comes, it is a prefix of that text.
+  -- their octets. Whatever the status, what was written is a prefix of that text.
   pub writes : WritesOutcome (option_map (form_outcome f env form) input) old new status
   -- The other answers have their causes. Memory may run out at any time.
   pub causes : HasCause (option_map (form_outcome f env form) input) status SourceFailed SinkFailed

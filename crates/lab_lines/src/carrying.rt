@@ -35,7 +35,7 @@ impl Page {
     }
 }
 
-// Passes the next line, its line feed with it, and writes what the form writes of it.
+// Passes the next line, which includes its line feed, and writes what the form writes of it.
 pub(crate) fn pass_line<R: Threads + Sync, F: Form, K: Sink, N: Net + Sync, D: Draws>(
     rt: &R,
     script: Script,
@@ -91,7 +91,7 @@ fn look<F: Form>(script: &Script, line: &[u8], form: &mut F) -> Result<(), Alloc
     form.before(script, shown_text(line))
 }
 
-// The same of a line beyond the limits, and writes that the script stops at it.
+// Lets the form look at the script before a line beyond the limits, and writes that the script stops at it.
 fn stop_beyond<F: Form, K: Sink>(
     number: u32,
     script: &Script,
@@ -112,7 +112,7 @@ fn stop_beyond<F: Form, K: Sink>(
     stop_at(number, line, beyond, form, page, sink)
 }
 
-// Writes that the script stops so at the line of this number.
+// Writes that the script stops for this reason at the line of this number.
 fn stop_at<F: Form, K: Sink>(
     number: u32,
     line: &[u8],
@@ -136,7 +136,7 @@ fn stop_at<F: Form, K: Sink>(
     }
 }
 
-// Puts down why the script stops at the line of this number, in place of what stood there.
+// Writes into `report`, in place of its octets, why the script stops at the line of this number.
 fn put_ending(report: &mut Vec<u8>, line: u32, error: LineError) -> Result<Ending, AllocError>
     ensures ending { IfOk result (IsEndingOf line error) }
     ensures text { OnOk result (report.new.items ≡ line_error_text line error) }

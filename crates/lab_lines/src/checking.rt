@@ -40,7 +40,7 @@ impl Model for Checking {
 }
 
 /// Carries out the script of the source, and compares each line's report with the `#>` notes right after the line, line
-/// by line. Of each line whose report is another it writes where they differ, and at the end how many lines that were.
+/// by line. Of each line whose report differs it writes where, and at the end how many lines differ.
 pub fn check<R: Threads + Sync, S: Source, K: Sink, N: Net + Sync, D: Draws>(
     rt: &R,
     alloc: Global,
@@ -66,7 +66,7 @@ pub fn check<R: Threads + Sync, S: Source, K: Sink, N: Net + Sync, D: Draws>(
 }
 
 impl Checking {
-    // No line was carried out.
+    // The check before the first line.
     fn new(alloc: Global) -> Checking
         ensures { result ≡ nothing_checked }
     {
@@ -139,7 +139,7 @@ impl Form for Checking {
     }
 }
 
-// Puts octets in place of what stood there.
+// Replaces the octets of `old` by `octets`.
 fn replace(old: &mut Vec<u8>, octets: &[u8]) -> Result<(), AllocError>
     ensures { OnOk result (old.new.items ≡ octets.now) }
 {

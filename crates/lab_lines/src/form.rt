@@ -18,17 +18,16 @@ pub trait Form {
     fn reads_on(&self) -> bool
         ensures { result ≡ form.reads_on };
 
-    /// Takes a note, its line feed with it, where it has one.
+    /// Takes a note, with its line feed where it has one.
     fn note(&mut self, note: &[u8]) -> Result<(), AllocError>
         ensures { OnOk result (self.new ≡ form.note self.old note.now) };
 
-    /// Looks at the script before a line of it, which has no line feed here, whether it is then taken or stops the
-    /// script.
+    /// Looks at the script before a line, which has no line feed here. The line is then taken, or stops the script.
     fn before(&mut self, script: &Script, line: &[u8]) -> Result<(), AllocError>
         ensures { OnOk result (self.new ≡ form.before self.old (reached script.now).state line.now) };
 
-    /// Takes a line of the script, without its line feed: its number among them, its report, and the script after it.
-    /// At the line that stops the script the report says so, and there is none after it.
+    /// Takes a line of the script, without its line feed: its number among the script's lines, its report, and the
+    /// script after it. At the line that stops the script the report says so, and there is no script after it.
     fn line(
         &mut self,
         number: u32,

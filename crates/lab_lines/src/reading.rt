@@ -22,8 +22,9 @@ use script_story::Ending;
 use std::alloc::Global;
 use std::thread::Threads;
 
-/// Carries out the script of the source line by line for a form, and writes what the form writes: of each line before
-/// the next one is looked for, and then of the end. At most 65,536 octets are held that were read and not passed.
+/// Carries out the script of the source line by line for a form, and writes what the form writes: the text of each line
+/// before the next line is looked for, and then that of the end. At most 65,536 octets are held that were read and not
+/// passed.
 pub fn run_form<R: Threads + Sync, F: Form, S: Source, K: Sink, N: Net + Sync, D: Draws>(
     rt: &R,
     alloc: Global,
@@ -55,7 +56,7 @@ pub fn run_form<R: Threads + Sync, F: Form, S: Source, K: Sink, N: Net + Sync, D
     )
 }
 
-// Passes one line after another, each before more is read than stands in the reader's room.
+// Passes one line after another, each before more is read than the reader can hold.
 fn run_lines<R: Threads + Sync, F: Form, S: Source, K: Sink, N: Net + Sync, D: Draws>(
     rt: &R,
     begun: Script,
@@ -110,7 +111,7 @@ fn run_lines<R: Threads + Sync, F: Form, S: Source, K: Sink, N: Net + Sync, D: D
     }
 }
 
-// Passes the last line, if there is one, and ends.
+// Passes the last line, if there is one, and ends the form.
 fn run_last<R: Threads + Sync, F: Form, K: Sink, N: Net + Sync, D: Draws>(
     rt: &R,
     script: Script,

@@ -15,8 +15,8 @@ use repo_io::{Failed, Sink, Source};
 use script_lines::{LineReader, Next};
 use script_story::Ending;
 
-// The script stopped at a line of which so many octets are held: a form that reads on takes the notes right after the
-// line, and then it ends.
+// The script stopped at a line, of which the first `count` octets held are: a form that reads on takes the notes right
+// after the line, and then it ends.
 pub(crate) fn after_stop<F: Form, S: Source, K: Sink>(
     count: usize,
     ending: Ending,
@@ -45,7 +45,7 @@ pub(crate) fn after_stop<F: Form, S: Source, K: Sink>(
     }
 }
 
-// Takes the notes right after a line, whose end was passed or not.
+// Takes the notes right after a line. `ended` says whether the end of the line was passed.
 fn read_on<F: Form, S: Source>(
     ended: bool,
     totals: Totals,
@@ -68,8 +68,8 @@ fn read_on<F: Form, S: Source>(
     }
 }
 
-// Passes what is left of a line whose line feed is not among the octets so far, or so much of it that nothing after it
-// is within the limits.
+// Passes the rest of a line whose line feed is not among the octets so far, or so much of it that nothing after it is
+// within the limits.
 fn pass_rest<S: Source>(
     totals: &mut Totals,
     reader: &mut LineReader,
@@ -91,7 +91,7 @@ fn pass_rest<S: Source>(
     Ok(())
 }
 
-// Takes the notes with which the lines that are left begin.
+// Takes the notes at the beginning of the octets that are held or unread.
 fn read_notes<F: Form, S: Source>(
     totals: Totals,
     form: &mut F,
@@ -120,14 +120,15 @@ fn read_notes<F: Form, S: Source>(
     }
 }
 
-// Whether a line more is a note within the limits.
+// Whether the next line is a note within the limits.
 fn is_next_note(totals: Totals, line: &[u8]) -> bool
     ensures { result ≡ (fits totals.lines totals.octets line.now && is_note line.now) }
 {
     totals.fits(line) && is_note(line)
 }
 
-// How many octets are the next line, or the next part of one that is too long, and whether the line ends with them.
+// The number of octets that are the next line, or the next piece of one that is too long, and whether the line ends
+// with them.
 fn next_piece<S: Source>(reader: &mut LineReader, source: &mut S) -> Result<(usize, bool), Failed>
     ensures kept { Keeps (prepend_known reader.old (S.left source.old)) (prepend_known reader.new (S.left source.new)) }
     ensures few { length reader.new ≤ 65536 }

@@ -4,10 +4,10 @@ ghost use Rattle.lab_lines.specs.Folding.{fits, most_lines, most_octets};
 use lab_text::without_feed;
 use script_lang::LINE_LIMIT;
 
-// Lines of an input, notes among them.
+// The most lines of an input, notes among them.
 const MOST_LINES: u32 = 1_000_000;
 
-// Octets of an input, notes among them.
+// The most octets of an input, notes among them.
 const MOST_OCTETS: usize = 300_000_000;
 
 // How many lines and octets of an input were passed.
@@ -18,7 +18,7 @@ pub(crate) struct Totals {
 }
 
 impl Totals {
-    // None were.
+    // No line and no octet was passed.
     pub fn new() -> Totals
         ensures { result ≡ record { lines = 0; octets = 0 } }
     {
@@ -28,7 +28,7 @@ impl Totals {
         }
     }
 
-    // Whether a line more is within the limits.
+    // Whether one more line is within the limits.
     pub fn fits(&self, line: &[u8]) -> bool
         ensures { result ≡ fits self.now.lines self.now.octets line.now }
     {
@@ -38,7 +38,7 @@ impl Totals {
             && without_feed(line).len() <= LINE_LIMIT
     }
 
-    // Counts a line more.
+    // Counts one more line.
     pub fn count(&mut self, line: &[u8])
         requires lines { self.old.lines ≤ most_lines }
         requires octets { self.old.octets ≤ most_octets }
@@ -60,7 +60,7 @@ impl Totals {
         self.octets += octets.len();
     }
 
-    // Whether an octet more could be within the limits.
+    // Whether the octets that were passed are within the limit.
     pub fn is_open(&self) -> bool
         ensures { result ≡ nat_le self.now.octets most_octets }
     {

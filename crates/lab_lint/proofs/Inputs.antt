@@ -9,7 +9,7 @@ use Rattle.std.specs.Io.KnownBytes.{IsAtEnd, Keeps, prepend_known}
 use Rattle.lab_text.specs.Outcomes.{Outcome}
 use Rattle.lab_lint.specs.Linting.{lint_of, most_read, outcome_in}
 
--- nothing is left after so few octets
+-- where fewer octets were read than are read at most, the source is at its end
 abbrev pub IsWhole : List ℕ → Option (List ℕ) → Type 0
 IsWhole read left = length read < 300000001 → IsAtEnd left
 
@@ -24,7 +24,7 @@ read_of_both read rest most whole =
           rw all (take-append_seam read rest)
     ]
 
--- what holds of the outcome of what was read holds of that of the input
+-- what holds of the outcome of the octets that were read holds of the outcome of the input
 pub by_outcome : (Q : Outcome → Type 0) (before left : Option (List ℕ)) (read : List ℕ)
     → Keeps before (prepend_known read left) → length read ≤ 300000001 → IsWhole read left → Q (outcome_in read)
     → IfSome (option_map lint_of before) Q

@@ -1,4 +1,4 @@
--- One line after another of those that are left.
+-- The lines of an input, one after another.
 use Rattle.std.proofs.Common.{◌≡◌, ◌+◌, ℕ, true, false, List, [], ◌∷◌, ◌++◌, refl, sym, ap, append_assoc}
 use Rattle.std.proofs.lemmas.List.{append-nil}
 use Rattle.repo_io.specs.Lines.{lines}
@@ -12,7 +12,7 @@ use Rattle.lab_lint.specs.Linting.{linted_line, line_refused, line_taken, with_t
 joined : (old text : List ℕ) (l : Linted) → with_text (old ++ text) l ≡ with_text old (with_text text l)
 joined old text l = ap (λ (t : List ℕ). linted t l.number l.taken) (append_assoc old text l.text)
 
--- no line is left
+-- no line follows
 pub no_line : (old : List ℕ) (p : Passed) → with_text old (lint_from p []) ≡ linted old p.number p.taken
 unfolding lint_from
 no_line old p = ap (λ (t : List ℕ). linted t p.number p.taken) (append-nil old)
@@ -46,7 +46,7 @@ unfolding lint_from
 line_passed old new p q line others within other passes =
     rw (within, other) (judged_passed old new p q line others (evaluated p line) passes)
 
--- ---- the same of the octets that are left
+-- ---- the lines of octets
 
 pub beyond_so : (old new : List ℕ) (p : Passed) (line rest others : List ℕ) (number count : ℕ)
     → lines rest ≡ line ∷ lines others → fits p line ≡ false

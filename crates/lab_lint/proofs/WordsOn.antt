@@ -2,7 +2,7 @@
 use Rattle.std.proofs.Common.{◌≡◌, ◌<◌, ◌-◌, ℕ, zero, suc, List, refl, arith}
 use Rattle.lab_lint.specs.Columns.{after_spaces, after_word, words_on}
 
--- One word more,
+-- One more word is passed.
 pub one_more : (count : ℕ) (octets : List ℕ) → 0 < count
     → words_on count octets ≡ words_on (count - 1) (after_spaces (after_word octets))
 unfolding words_on
@@ -11,7 +11,7 @@ one_more (suc count) octets more =
     let fewer : suc count - 1 ≡ count = omega arith in
     rw fewer refl
 
--- and none more.
+-- No more word is passed.
 pub no_more : (count : ℕ) (octets : List ℕ) → count ≡ 0 → words_on count octets ≡ octets
 unfolding words_on
 no_more count octets none = rw none refl

@@ -22,25 +22,25 @@ after_word (octet ∷ octets) = if octet == 32 then octet ∷ octets else after_
 abbrev pub first_word : List ℕ → List ℕ
 first_word octets = take (length octets - length (after_word octets)) octets
 
--- Octets that begin with a word, from the word on that is so many words later; nothing where there is none.
+-- `octets`, which begin with a word, without their first `count` words and the spaces after each of them.
 unfoldable pub words_on : ℕ → List ℕ → List ℕ
 words_on zero octets = octets
 words_on (suc count) octets = words_on count (after_spaces (after_word octets))
 
--- A line from its first word on, which is its verb,
+-- A line from its first word on, which is its verb.
 abbrev pub from_verb : List ℕ → List ℕ
 from_verb body = after_spaces body
 
--- and from the word at a place on. Places count the words after the verb.
+-- A line from the word at the place `place` on. Places count the words after the verb, from 0.
 abbrev pub from_place : ℕ → List ℕ → List ℕ
 from_place place body = words_on place (after_spaces (after_word (from_verb body)))
 
--- The column of the first of these octets, with which a line ends. It is counted from 1. Where there are none, it is
--- the one past the end of the line.
+-- The column, counted from 1, of the first octet of `rest`, with which the line `body` ends. Where `rest` is empty, it
+-- is the one past the end of the line.
 abbrev pub column_of : List ℕ → List ℕ → ℕ
 column_of body rest = length body + 1 - length rest
 
--- The column of an octet after so many others.
+-- The column of an octet that stands after `before` others; 1 where no number is given.
 abbrev pub column_after : Option ℕ → ℕ
 column_after None = 1
 column_after (Some before) = before + 1

@@ -48,7 +48,7 @@ word_text Limit verb name kind = name ++ range_text kind
 word_text Syntax verb name kind = name ++ kind_text kind ++ codes "; " ++ form_text verb
 word_text NoMemory verb name kind = []
 
--- The same of the word at a place of the form.
+-- What is expected of the word at a place of the form that has this name and this kind; the form where it has none.
 abbrev pub place_text : LineFault → Verb → Option (List ℕ) → Option Kind → List ℕ
 place_text fault verb (Some name) (Some kind) = word_text fault verb name kind
 place_text fault verb name kind = form_text verb
@@ -58,7 +58,7 @@ abbrev pub missing_text : Verb → Option (List ℕ) → List ℕ
 missing_text verb (Some name) = name ++ codes " is missing; " ++ form_text verb
 missing_text verb None = form_text verb
 
--- So many words are too many.
+-- A line has `count` words too many.
 abbrev pub surplus_text : ℕ → List ℕ
 surplus_text count =
     if count == 1 then codes " has one word too many; " else codes " has " ++ decimal count ++ codes " words too many; "
@@ -68,7 +68,7 @@ abbrev pub together_text : Verb → List ℕ
 together_text Insert = codes "FIRST to LAST are 1 to " ++ decimal blocks_limit ++ codes " blocks"
 together_text verb = codes "CONTENT has at most " ++ decimal segments_limit ++ codes " segments of SIZE octets"
 
--- The last word of a form.
+-- A line from the last word of its form on.
 abbrev pub from_last : Verb → List ℕ → List ℕ
 from_last verb body = words_on (length (form verb).kinds) (from_verb body)
 
@@ -83,8 +83,8 @@ wrong_text fault (wrong.Missing verb place) body = missing_text verb (slice_get 
 wrong_text fault (wrong.Surplus verb count) body = from_last verb body ++ surplus_text count ++ form_text verb
 wrong_text fault (wrong.Together verb) body = together_text verb
 
--- The column of the first octet that is wrong: of the word, or past the end of the line where one is missing. Where
--- words are too many it is that of the last word of the form, which goes on so.
+-- The column of the first octet that is wrong: of the word, or past the end of the line where a word is missing. Where
+-- there are words too many, it is the column of the last word of the form.
 abbrev pub wrong_column : Wrong → List ℕ → ℕ
 wrong_column wrong.Length body = line_octets + 1
 wrong_column wrong.Octet body = unprintable_column body

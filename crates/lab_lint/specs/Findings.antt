@@ -31,7 +31,7 @@ abbrev pub begin_text : ℕ → Refusal → ℕ → List ℕ
 begin_text number why column = decimal number ++ codes " " ++ refusal_word why ++ codes " at " ++ decimal column
     ++ codes ": "
 
--- The line that is written of it.
+-- The line of text that is written of a finding.
 abbrev pub finding_text : ℕ → Finding → List ℕ
 finding_text number f = begin_text number f.why f.column ++ (f.expected ++ codes "\n")
 
@@ -60,7 +60,8 @@ check_refusal check_fault.Limit = refusal.Limit
 check_refusal check_fault.TooLarge = refusal.TooLarge
 check_refusal check_fault.NoMemory = refusal.Limit
 
--- What is expected where no word but the verb is to blame.
+-- What is expected where the lines before a line don't allow it: of a word that is unknown or declared already, the
+-- word itself.
 abbrev pub check_text : CheckFault → List ℕ → List ℕ
 check_text check_fault.NoGroup word = codes "a group line comes first"
 check_text check_fault.Late word = codes "declarations come before events"
@@ -72,7 +73,7 @@ check_text check_fault.TooLarge word = codes "at most " ++ decimal contents_limi
     ++ decimal parts_limit ++ codes " parts and " ++ decimal settles_limit ++ codes " settles"
 check_text check_fault.NoMemory word = []
 
--- A line from the word on for which it is refused.
+-- A line from the word at `place` on, or from its verb on where no place is given.
 abbrev pub from_checked : Option ℕ → List ℕ → List ℕ
 from_checked None body = from_verb body
 from_checked (Some place) body = from_place place body
@@ -88,11 +89,11 @@ check_finding fault d s body = finding_at fault body (from_checked (checked_plac
 
 -- ---- limits over lines
 
--- Lines of an input, notes among them.
+-- How many lines an input has at most, notes among them.
 abbrev pub most_lines : ℕ
 most_lines = 1000000
 
--- Octets of an input, notes among them.
+-- How many octets an input has at most, notes among them.
 abbrev pub most_octets : ℕ
 most_octets = 300000000
 

@@ -21,8 +21,9 @@ is_client d label = is_some (party_place label d.clients)
 abbrev pub is_mirror : Declared → List ℕ → Bool
 is_mirror d label = is_some (mirror_place label d.mirrors)
 
--- A label is known: a member's, or a mirror's in an event of a mirror. The second label of a client's command is a
--- client's. The first label of a declaration is the new one.
+-- The label is declared as a line of the sort `sort` needs it: as a member's, or in an event of a mirror as a mirror's.
+-- In a client's command a label after the first (`later`) is a client's. The first label of a declaration is the new
+-- one, and always passes.
 abbrev pub is_known : Sort → Bool → Declared → List ℕ → Bool
 is_known declaration false d label = true
 is_known declaration true d label = is_member d label
@@ -31,7 +32,8 @@ is_known command false d label = is_member d label
 is_known command true d label = is_client d label
 is_known mirroring later d label = is_mirror d label
 
--- The place of the first label that is unknown, of the values from this place on.
+-- The place of the first unknown label of the values, of which the first is at `place`. `later` says whether a label
+-- stands before them.
 unfoldable pub unknown_from : Sort → Declared → Bool → ℕ → List Value → Option ℕ
 unknown_from sort d later place [] = None
 unknown_from sort d later place (Text label ∷ values) =
@@ -49,8 +51,8 @@ unknown_place d s = unknown_from (sort_of s.verb) d false 0 s.values
 abbrev pub is_declared : Declared → List ℕ → Bool
 is_declared d label = is_member d label || is_client d label || is_mirror d label
 
--- The place of what a declaration declares anew: the label, or else the name of the node. A second group is refused for
--- its verb.
+-- The place of what a declaration declares a second time: the label, or else the name of the node. A second group is
+-- refused for its verb.
 abbrev pub double_in : Declared → List Value → Option ℕ
 double_in d (Text label ∷ values) = if is_declared d label then Some 0 else Some 1
 double_in d values = None
@@ -59,7 +61,7 @@ double_in d values = None
 abbrev pub double_place : Declared → Stated → Option ℕ
 double_place d s = if declares s.verb then double_in d s.values else None
 
--- The place of the word for which a line is refused so, or none where it is refused for its verb.
+-- The place of the word for which a line is refused with this fault, or none where it is refused for its verb.
 abbrev pub checked_place : CheckFault → Declared → Stated → Option ℕ
 checked_place check_fault.UnknownLabel d s = unknown_place d s
 checked_place check_fault.Duplicate d s = double_place d s

@@ -17,8 +17,9 @@ use Rattle.lab_lint.specs.Columns.{body_of}
 use Rattle.lab_lint.specs.Findings.{Finding, check_finding, finding_text, input_finding, line_finding, most_lines}
 use Rattle.lab_lint.specs.Findings.{most_octets, script_finding}
 
--- The result of the lines so far: how many they are, notes among them, and how many octets they have; how many of them
--- are the script's; how many of these weren't refused, how many octets those have, and what they declared.
+-- The result of the lines so far. `lines` and `octets` count all lines, notes among them; `number` counts the lines of
+-- the script, `taken` those of them that weren't refused, and `script` the octets of these; `declared` is what the
+-- lines that weren't refused declared.
 pub record Passed : Type 0 where
   pub lines : ℕ
   pub octets : ℕ
@@ -27,20 +28,20 @@ pub record Passed : Type 0 where
   pub script : ℕ
   pub declared : Declared
 
--- Before the first line.
+-- The result before the first line.
 abbrev pub nothing_passed : Passed
 nothing_passed =
     record { lines = 0; octets = 0; number = 0; taken = 0; script = 0; declared = nothing_declared }
 
--- After one more note,
+-- The result after one more note.
 abbrev pub after_note : Passed → List ℕ → Passed
 after_note p line = record p { lines = p.lines + 1; octets = p.octets + length line }
 
--- after one more line that is refused, which changes nothing of what is declared,
+-- The result after one more line that is refused, which changes nothing of what is declared.
 abbrev pub after_refused : Passed → List ℕ → Passed
 after_refused p line = record p { lines = p.lines + 1; octets = p.octets + length line; number = p.number + 1 }
 
--- and after one more line that isn't.
+-- The result after one more line that isn't refused, with which `d` is declared.
 abbrev pub after_taken : Passed → List ℕ → Declared → Passed
 after_taken p line d = record {
   lines = p.lines + 1;
@@ -53,19 +54,19 @@ after_taken p line d = record {
 
 -- ---- the next line
 
--- A line more is within the limits of an input,
+-- One more line is within the limits of an input.
 abbrev pub fits : Passed → List ℕ → Bool
 fits p line = nat_lt p.lines most_lines && nat_le (p.octets + length line) most_octets
 
--- and within those of a script.
+-- One more line that is taken is within the limits of a script.
 abbrev pub is_within_script : Passed → List ℕ → Bool
 is_within_script p line = nat_lt p.taken script_lines && nat_le (p.script + length line) script_octets
 
--- A note. One that is longer than a line may be is evaluated as a line.
+-- The line is a note, and no longer than a line may be. A longer note is evaluated as a line of the script.
 abbrev pub is_short_note : List ℕ → Bool
 is_short_note line = is_note line && nat_le (length (without_feed line)) line_octets
 
--- A line of the script is refused for this, or so much is declared after it.
+-- How a line of the script is evaluated: it is refused with a finding, or taken, and then this is declared after it.
 pub data Evaluated : Type 0 where
   line_refused : Finding → Evaluated
   line_taken : Declared → Evaluated
@@ -97,11 +98,11 @@ pub record Linted : Type 0 where
 abbrev pub linted : List ℕ → ℕ → ℕ → Linted
 linted text number taken = record { text = text; number = number; taken = taken }
 
--- The same with a text before it.
+-- The result `l` with `text` before its text.
 abbrev pub with_text : List ℕ → Linted → Linted
 with_text text l = linted (text ++ l.text) l.number l.taken
 
--- What is written of a line with this verdict, and of the lines after it.
+-- What is written of the line `line`, by how it is evaluated, and of the lines after it (`others`).
 abbrev pub linted_line : (Passed → Linted) → Passed → List ℕ → Evaluated → Linted
 linted_line others p line (line_refused f) = with_text (finding_text (p.number + 1) f) (others (after_refused p line))
 linted_line others p line (line_taken d) = others (after_taken p line d)
@@ -110,7 +111,7 @@ linted_line others p line (line_taken d) = others (after_taken p line d)
 abbrev pub beyond : Passed → Linted
 beyond p = linted (finding_text (p.number + 1) input_finding) (p.number + 1) p.taken
 
--- What is written of these lines, after those that were read so far.
+-- What is written of lines, where `p` is the result of the lines before them.
 unfoldable pub lint_from : Passed → List (List ℕ) → Linted
 lint_from p [] = linted [] p.number p.taken
 lint_from p (line ∷ others) =
@@ -142,7 +143,7 @@ outcome_of l = record {
 abbrev pub outcome_in : List ℕ → Outcome
 outcome_in octets = outcome_of (lint_from nothing_passed (lines octets))
 
--- Of an input that is beyond its limit no more is read than one octet beyond.
+-- How many octets of an input are read at most: one more than it may have.
 abbrev pub most_read : ℕ
 most_read = most_octets + 1
 

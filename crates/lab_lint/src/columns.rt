@@ -59,7 +59,7 @@ pub(crate) fn first_word(octets: &[u8]) -> &[u8]
     word
 }
 
-// Octets from the word on that is so many words later.
+// `octets`, which begin with a word, without their first `count` words and the spaces after each of them.
 #[tactic(auto, using(crate::proofs::WordsOn::one_more, crate::proofs::WordsOn::no_more))]
 pub(crate) fn words_on(octets: &[u8], count: usize) -> &[u8]
     ensures { result.now ≡ words_on count octets.now }

@@ -179,7 +179,7 @@ fn put_between(
     put(out, after)
 }
 
-// The word at a place is missing.
+// Appends that the word at `place` is missing.
 #[tactic(auto, using(crate::proofs::PlaceNames::name_there, crate::proofs::PlaceNames::no_name_there))]
 fn put_missing(out: &mut Vec<u8>, verb: Verb, place: usize) -> Result<(), AllocError>
     ensures { OnOk result (out.new.items ≡ out.old.items
@@ -205,7 +205,7 @@ fn put_then_form(out: &mut Vec<u8>, verb: Verb, before: &str) -> Result<(), Allo
     put_form(out, verb)
 }
 
-// So many words are too many.
+// Appends that a line has `count` words too many.
 fn put_surplus(out: &mut Vec<u8>, count: usize) -> Result<(), AllocError>
     ensures { OnOk result (out.new.items ≡ out.old.items ++ surplus_text count) }
 {
@@ -218,7 +218,7 @@ fn put_surplus(out: &mut Vec<u8>, count: usize) -> Result<(), AllocError>
     }
 }
 
-// What words leave a range together.
+// Appends what is expected of words that leave a range together.
 fn put_together(out: &mut Vec<u8>, verb: Verb) -> Result<(), AllocError>
     ensures { OnOk result (out.new.items ≡ out.old.items ++ together_text verb) }
 {

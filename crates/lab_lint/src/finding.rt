@@ -16,15 +16,15 @@ use script_lang::{
 use script_report::Refusal;
 use std::alloc::{AllocError, Global};
 
-// Lines and octets of an input, notes among them.
+// How many lines and how many octets an input has at most, notes among them.
 pub(crate) const MOST_LINES: u32 = 1_000_000;
 
 pub(crate) const MOST_OCTETS: usize = 300_000_000;
 
-// Each call appends the line of text that says what is wrong with the line of a script of this number. Where memory
-// runs out, a part of it may stand there.
+// Each call appends the line of text that says what is wrong with line `number` of a script. Where memory runs out, a
+// part of that text may be appended.
 
-// The line is refused by itself.
+// Appends what is wrong with a line that can't be read.
 pub(crate) fn put_line_finding(
     out: &mut Vec<u8>,
     alloc: Global,
@@ -41,7 +41,7 @@ pub(crate) fn put_line_finding(
     put(out, "\n")
 }
 
-// The line is refused for those before it.
+// Appends what is wrong with a line that the lines before it don't allow.
 pub(crate) fn put_check_finding(
     out: &mut Vec<u8>,
     number: u32,
@@ -57,7 +57,7 @@ pub(crate) fn put_check_finding(
     put_at(out, number, body, rest, fault)
 }
 
-// The same, from the word on for which it is refused.
+// Appends what is wrong with a line that is refused for the first word of `rest`.
 fn put_at(
     out: &mut Vec<u8>,
     number: u32,
@@ -72,7 +72,7 @@ fn put_at(
     put(out, "\n")
 }
 
-// A script has too many lines or octets.
+// Appends that a script has too many lines or octets.
 pub(crate) fn put_script_finding(out: &mut Vec<u8>, number: u32) -> Result<(), AllocError>
     ensures { OnOk result (out.new.items ≡ out.old.items ++ finding_text number script_finding) }
 {
@@ -81,7 +81,7 @@ pub(crate) fn put_script_finding(out: &mut Vec<u8>, number: u32) -> Result<(), A
     put(out, "\n")
 }
 
-// An input has too many lines or octets.
+// Appends that an input has too many lines or octets.
 pub(crate) fn put_input_finding(out: &mut Vec<u8>, number: u32) -> Result<(), AllocError>
     ensures { OnOk result (out.new.items ≡ out.old.items ++ finding_text number input_finding) }
 {
@@ -101,7 +101,7 @@ fn put_limits(out: &mut Vec<u8>, subject: &str, lines: u64, octets: u64) -> Resu
     put(out, " octets")
 }
 
-// The number of the line, the refusal and the column.
+// Appends the number of the line, the refusal and the column.
 fn put_begin(
     out: &mut Vec<u8>,
     number: u32,
@@ -119,7 +119,7 @@ fn put_begin(
     put(out, ": ")
 }
 
-// A line from the word on for which it is refused.
+// A line from the word at `place` on, or from its verb on where no place is given.
 fn from_checked(body: &[u8], place: Option<usize>) -> &[u8]
     ensures { result.now ≡ from_checked place body.now }
 {
@@ -151,7 +151,8 @@ fn check_refusal(fault: CheckFault) -> Refusal
     }
 }
 
-// What is expected of a line after those before it, and the word for which it is refused.
+// Appends what is expected where the lines before a line don't allow it: of a word that is unknown or declared already,
+// the word itself.
 fn put_checked(out: &mut Vec<u8>, fault: CheckFault, word: &[u8]) -> Result<(), AllocError>
     ensures { OnOk result (out.new.items ≡ out.old.items ++ check_text fault word.now) }
 {

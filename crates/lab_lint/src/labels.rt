@@ -4,7 +4,7 @@ ghost use Rattle.lab_lint.specs.Labels.{checked_place, double_place, is_declared
 
 use script_lang::{CheckFault, Line, Words};
 
-// The place of the word for which a line is refused so, or none where it is refused for its verb.
+// The place of the word for which a line is refused with `fault`, or none where it is refused for its verb.
 pub(crate) fn checked_place(words: &Words, line: &Line, fault: CheckFault) -> Option<usize>
     ensures { result ≡ checked_place fault words.now (stated line.now) }
 {
@@ -72,7 +72,7 @@ fn is_member(words: &Words, label: &str) -> bool
     words.member(label).is_some()
 }
 
-// The place of the first of two labels that is unknown, where the first one is at place 0.
+// The place of the first unknown one of two labels, of which the first is at place 0 and the second at `place`.
 fn first_of(first: bool, second: bool, place: usize) -> Option<usize>
     ensures { result ≡ if first then (if second then None else Some place) else Some 0 }
 {
@@ -90,7 +90,7 @@ fn unless(known: bool, place: usize) -> Option<usize>
     if known { None } else { Some(place) }
 }
 
-// The place of what is declared already.
+// The place of what a line declares a second time.
 fn double_place(words: &Words, line: &Line) -> Option<usize>
     ensures { result ≡ double_place words.now (stated line.now) }
 {

@@ -23,15 +23,15 @@ pub(crate) struct Linter {
     // How many lines there were, notes among them, and how many octets they have.
     lines: u32,
     octets: usize,
-    // How many of them are the script's.
+    // How many lines of the script there were.
     number: u32,
-    // How many of these weren't refused, how many octets they have, and what they declared.
+    // How many lines of the script weren't refused, how many octets those have, and what they declared.
     taken: u32,
     script: usize,
     words: Words,
 }
 
-// It is seen as that.
+// A linter is seen as the result of the lines so far.
 impl Model for Linter {
     ghost use Rattle.std.specs.Prelude.{◌≤◌};
     ghost use Rattle.lab_lint.specs.Linting.{Passed};
@@ -52,7 +52,7 @@ impl Model for Linter {
 }
 
 impl Linter {
-    // No line was passed.
+    // A linter before the first line.
     pub(crate) fn new(alloc: Global) -> Linter
         ensures { result ≡ nothing_passed }
     {
@@ -67,14 +67,14 @@ impl Linter {
         }
     }
 
-    // Whether a line more is within the limits of an input.
+    // Whether one more line is within the limits of an input.
     pub(crate) fn fits(&self, line: &[u8]) -> bool
         ensures { result ≡ fits self.now line.now }
     {
         self.lines < MOST_LINES && line.len() <= MOST_OCTETS - self.octets
     }
 
-    // Whether it is within those of a script.
+    // Whether one more line that is taken is within the limits of a script.
     fn is_within_script(&self, line: &[u8]) -> bool
         ensures { result ≡ is_within_script self.now line.now }
     {
@@ -119,7 +119,7 @@ impl Linter {
         self.number += 1;
     }
 
-    // Passes a line that isn't. What it declares is kept already.
+    // Passes a line that isn't refused. What it declares is kept already.
     fn pass_taken(&mut self, line: &[u8])
         requires fits { fits self.old line.now ≡ true }
         requires within { is_within_script self.old line.now ≡ true }
@@ -132,7 +132,7 @@ impl Linter {
         self.script += line.len();
     }
 
-    // Appends that a line more is beyond the limits of an input.
+    // Appends that one more line is beyond the limits of an input.
     pub(crate) fn put_beyond(&self, out: &mut Vec<u8>) -> Result<(), AllocError>
         ensures { OnOk result (out.new.items ≡ out.old.items ++ finding_text (self.now.number + 1) input_finding) }
     {
@@ -147,7 +147,7 @@ impl Linter {
         self.number
     }
 
-    // How many of them weren't refused.
+    // How many lines of the script weren't refused.
     pub(crate) fn taken(&self) -> u32
         ensures { result ≡ self.now.taken }
     {
@@ -181,7 +181,8 @@ fn evaluate(
     }
 }
 
-// The same of a line that was read, by those before it.
+// Whether a line that was read is refused for what the lines before it declared. If so, what is wrong with it is
+// appended; else what it declares is kept.
 fn check(
     words: &mut Words,
     number: u32,

@@ -20,8 +20,9 @@ use std::alloc::{AllocError, Global};
 ///
 /// The input is read whole, up to 300,000,000 octets and one more, before anything is written.
 pub fn lint<S: Source, K: Sink>(alloc: Global, source: &mut S, sink: &mut K) -> LabStatus
-    // What was written is of the input's outcome, and the status is its status, where source and sink know their
-    // octets. Whatever comes, it is a prefix of that text.
+    // Where the text was written to its end, it is the text of the input's outcome (`lint_of`), and the status is that
+    // outcome's. In any case what was written is a prefix of that text. Both hold where source and sink know their
+    // octets.
     ensures writes { WritesOutcome (option_map lint_of (S.left source.old)) (K.out sink.old) (K.out sink.new) result }
 
     // The other answers have their causes. Memory may run out at any time.
@@ -61,7 +62,7 @@ struct Count {
     taken: u32,
 }
 
-// Appends what is wrong with the lines of octets, and how many are refused of how many.
+// Appends what is wrong with the lines of `octets`, and how many of how many lines are refused.
 fn lint_octets(alloc: Global, octets: &[u8], out: &mut Vec<u8>) -> Result<LabStatus, AllocError>
     ensures status { IfOk result (λ status. status ≡ (outcome_in octets.now).status) }
     ensures text { IfOk result (λ _. out.new.items ≡ out.old.items ++ (outcome_in octets.now).text) }
@@ -98,14 +99,14 @@ fn lint_lines(alloc: Global, octets: &[u8], out: &mut Vec<u8>) -> Result<Count, 
     })
 }
 
-// Whether a line is a note. One that is longer than a line may be is evaluated as a line.
+// Whether a line is a note, and no longer than a line may be. A longer note is evaluated as a line of the script.
 fn is_short_note(line: &[u8]) -> bool
     ensures { result ≡ is_short_note line.now }
 {
     is_note(line) && without_feed(line).len() <= LINE_LIMIT
 }
 
-// Appends how many lines of a script are refused, and answers how that ends.
+// Appends how many lines of a script are refused, and returns the status.
 fn put_sum(out: &mut Vec<u8>, refused: u32, number: u32) -> Result<LabStatus, AllocError>
     ensures status { IfOk result (λ status. status ≡ end_of refused) }
     ensures text { IfOk result (λ _. out.new.items ≡ out.old.items ++ sum_text refused number) }

@@ -10,7 +10,7 @@ one_below_more : (n : ℕ) (number : ℕ → ℕ) → numbers_below (n + 1) numb
 unfolding numbers_below
 one_below_more n number = let e : n + 1 ≡ suc n = omega arith in ap (λ (m : ℕ). numbers_below m number) e
 
--- One more is put down.
+-- One more number is put down.
 pub numbers_go_on : (so_far now : List ℕ) (n x : ℕ) (number : ℕ → ℕ) → so_far ≡ numbers_below n number
     → now ≡ so_far ++ x ∷ [] → x ≡ number n → now ≡ numbers_below (n + 1) number
 numbers_go_on so_far now n x number e more is =

@@ -61,7 +61,7 @@ verb_is (Some verb.Delete) row d w line report = command_is row d report
 verb_is (Some verb.Block) row d w line report = command_is row d report
 verb_is (Some _) row d w line report = nothing
 
--- The labels and the rows so far are.
+-- The labels and the rows so far are elements with escaped text in them.
 record Kept (m : Drawn) : Type 0 where
   heads : IsMarkup m.heads
   body : IsMarkup m.body

@@ -13,12 +13,12 @@ each_more : (n : ℕ) (text : ℕ → List ℕ) → each (n + 1) text ≡ each n
 unfolding each
 each_more n text = let e : n + 1 ≡ suc n = omega arith in ap (λ (m : ℕ). each m text) e
 
--- None are there yet.
+-- No text is put down yet.
 pub each_begins : (before : List ℕ) (text : ℕ → List ℕ) → before ≡ before ++ each 0 text
 each_begins before text =
     sym (append-nil before) ∙ ap (λ (t : List ℕ). before ++ t) (sym (each_none text))
 
--- One more is put down.
+-- One more text is put down.
 pub each_goes_on : (before so_far now : List ℕ) (n : ℕ) (text : ℕ → List ℕ) → so_far ≡ before ++ each n text
     → now ≡ so_far ++ text n → now ≡ before ++ each (n + 1) text
 each_goes_on before so_far now n text e more =
@@ -28,7 +28,7 @@ each_goes_on before so_far now n text e more =
 two : (a b c p q : List ℕ) → b ≡ a ++ p → c ≡ b ++ q → c ≡ a ++ (p ++ q)
 two a b c p q d e = e ∙ ap (λ (t : List ℕ). t ++ q) d ∙ append_assoc a p q
 
--- Four pieces, and five.
+-- Four pieces were put down one after the other, or five.
 pub four : (a b c d e p q r s : List ℕ) → b ≡ a ++ p → c ≡ b ++ q → d ≡ c ++ r
     → (result : Result (Unit {0}) AllocError) → OnOk result (e ≡ d ++ s)
     → OnOk result (e ≡ a ++ (p ++ (q ++ (r ++ s))))

@@ -9,8 +9,8 @@ use Rattle.lab_picture.specs.Page.{page}
 use Rattle.lab_picture.specs.Sights.{columns_of, counts_of, heads_of, sight}
 
 -- What is drawn so far: the labels above the columns, how many columns there are and how many of them are members, how
--- many entries each lists, how many rows there are, what they have, and for how many lines more there was no room. It
--- is written at the end, since its height stands at its beginning.
+-- many entries each lists, how many rows there are, the text of the rows, and how many more lines have no row. The
+-- picture is written at the end, since its height stands at its beginning.
 pub record Drawn : Type 0 where
   pub heads : List ℕ
   pub members : ℕ
@@ -27,7 +27,7 @@ nothing_drawn =
 abbrev pub most_rows : ℕ
 most_rows = 2000
 
--- One row more, or one line more for which there is no room.
+-- What is drawn with one more row, or with one more line that is only counted, where there are `most_rows` already.
 abbrev pub with_row : Drawn → ℕ → List ℕ → List ℕ → Drawn
 with_row m number line marks =
     if nat_lt m.rows most_rows
@@ -39,17 +39,17 @@ abbrev pub with_marks : Drawn → ℕ → List ℕ → List ℕ → Drawn
 with_marks m number line [] = m
 with_marks m number line (octet ∷ marks) = with_row m number line (octet ∷ marks)
 
--- What is to be seen of a line: what it did, and the numbers of entries that changed.
+-- The marks of a line: what it did, and the numbers of entries that changed.
 abbrev pub marks_of : Drawn → List ℕ → List ℕ → Declared → World → List Mirroring → List ℕ
 marks_of m line report d w mirrors =
     sight m.rows d w line report ++ changes m.rows m.columns m.listed (counts_of d w mirrors)
 
--- A line that made this world.
+-- What is drawn after a line whose world is `w`.
 abbrev pub with_event : Drawn → (number : ℕ) (line report : List ℕ) → Declared → World → List Mirroring → Drawn
 with_event m number line report d w mirrors =
     with_marks (record m { listed = counts_of d w mirrors }) number line (marks_of m line report d w mirrors)
 
--- Before the first event members and mirrors are declared, and no more after it.
+-- What is drawn with the members and mirrors of `d`, which are declared before the first event and not after it.
 abbrev pub with_declared : Drawn → Declared → Drawn
 with_declared m d =
     record m { heads = heads_of d; members = length d.members; columns = columns_of d }

@@ -57,7 +57,7 @@ band row columns kept =
 
 -- ---- numbers of entries
 
--- The number of a place, or 0.
+-- The number at the place `place`, or 0 where there is none.
 abbrev pub number_at : List ℕ → ℕ → ℕ
 number_at numbers place = unwrap_or (slice_get numbers place) 0
 

@@ -54,7 +54,7 @@ more_text rows more =
     if more == 0 then []
     else words_at shape.More 56 (row_y rows + 4) (codes "and ") (decimal more) (codes " more")
 
--- Where the rows end, that one among them.
+-- Where the rows end, with the row that says how many more lines there are, if it is there.
 abbrev pub rows_end : ℕ → ℕ → ℕ
 rows_end rows more = if more == 0 then row_y rows else row_y rows + 28
 
@@ -87,7 +87,7 @@ other_meanings y =
 
 -- ---- the whole
 
--- Right of the columns there is room for what stands beside the last one's line.
+-- The width of the page. Right of the columns there is space for what stands beside the last one's line.
 abbrev pub page_width : ℕ → ℕ
 page_width columns = max (right_end columns + 72) 576
 
@@ -96,7 +96,7 @@ unfoldable pub under_rows : (members columns rows width height : ℕ) → List �
 under_rows members columns rows width height =
     definitions ++ (mark shape.Ground (sized width height) ++ lifelines members columns (row_y rows - 14))
 
--- What stands below them.
+-- What stands below the rows: how many more lines there are, and what the marks mean.
 unfoldable pub below_rows : ℕ → ℕ → List ℕ
 below_rows rows more =
     more_text rows more ++ (first_meanings (rows_end rows more + 16) ++ other_meanings (rows_end rows more + 40))

@@ -8,12 +8,13 @@ use Rattle.lab_lines.specs.Folding.{FormOf, Lined, form_outcome}
 use Rattle.lab_lines.specs.Transcript.{status_at}
 use Rattle.lab_picture.specs.Drawn.{Drawn, nothing_drawn, picture, with_declared, with_event}
 
--- A line that was taken, where there is no group yet or a world after it.
+-- What is drawn after a line that was taken: with what is declared where there is no world yet, else with the line's
+-- event.
 abbrev pub with_world : Drawn → Lined → State → Option World → Drawn
 with_world m at s None = with_declared m s.declared
 with_world m at s (Some w) = with_event m at.number at.line at.report s.declared w s.mirrors
 
--- A line that stops the script did nothing.
+-- What is drawn after a line. A line that stops the script did nothing.
 abbrev pub with_state : Drawn → Lined → Option State → Drawn
 with_state m at None = m
 with_state m at (Some s) = with_world m at s s.world

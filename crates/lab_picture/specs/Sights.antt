@@ -19,7 +19,7 @@ use Rattle.lab_picture.specs.Words.{number_of, word_at}
 
 -- ---- columns
 
--- As many as there are members and mirrors.
+-- How many columns there are: one for each member and each mirror.
 abbrev pub columns_of : Declared → ℕ
 columns_of d = length d.members + length d.mirrors
 
@@ -70,13 +70,13 @@ abbrev pub mirror_count : World → List Mirroring → ℕ → ℕ
 mirror_count w mirrors i =
     if nat_lt i (length mirrors) then length (mirrored_entries w (mirror_of mirrors i)) else 0
 
--- How many that of a column lists.
+-- How many entries the catalogue of a column's member or mirror lists.
 abbrev pub count_at : Declared → World → List Mirroring → ℕ → ℕ
 count_at d w mirrors column =
     if nat_lt column (length d.members) then member_count w column
     else mirror_count w mirrors (column - length d.members)
 
--- Of each number below a number.
+-- `number i` for each `i` below the first argument, in order.
 unfoldable pub numbers_below : ℕ → (ℕ → ℕ) → List ℕ
 numbers_below zero number = []
 numbers_below (suc n) number = numbers_below n number ++ number n ∷ []
@@ -104,13 +104,13 @@ delivery row d w report =
     arrow (bytes_eq (word_at 3 report) (codes "suppressed")) row (sender_column w (word_at 1 report))
     (member_column d (word_at 2 report)) (codes "sync ") (word_at 1 report)
 
--- One that a mirror hears.
+-- A sync Interest that a mirror hears.
 abbrev pub mirror_delivery : ℕ → Declared → World → List ℕ → List ℕ
 mirror_delivery row d w report =
     arrow false row (sender_column w (word_at 1 report)) (mirror_column d (word_at 2 report))
     (codes "sync ") (word_at 1 report)
 
--- Data that is kept, from the member that was asked.
+-- An arrow for Data that a member stored, from the member that was asked.
 abbrev pub answer : ℕ → Declared → List ℕ → List ℕ → List ℕ
 answer row d line report =
     if bytes_eq (word_at 3 report) (codes "kept")

@@ -97,7 +97,7 @@ tag shape.Arrow = codes "line"
 tag shape.DashedArrow = codes "line"
 tag shape.Band = codes "rect"
 
--- The attributes that each of its kind has.
+-- The attributes that each element of a shape has.
 unfoldable pub style : Shape → List ℕ
 style shape.Picture = codes " xmlns='http://www.w3.org/2000/svg' font-family='monospace' font-size='12'"
 style shape.Definitions = []
@@ -125,11 +125,11 @@ style shape.Band = codes " fill='#bbb' fill-opacity='0.6'"
 abbrev pub attributes : List (Key × ℕ) → List ℕ
 attributes numbers = flat_map (λ (n : Key × ℕ). attribute n.0 n.1) numbers
 
--- The tag that opens an element, with its attributes,
+-- The tag that opens an element, with its attributes.
 unfoldable pub open_tag : Shape → List (Key × ℕ) → List ℕ
 open_tag s numbers = codes "<" ++ (tag s ++ (style s ++ (attributes numbers ++ codes ">")))
 
--- and the tag that closes it.
+-- The tag that closes an element.
 unfoldable pub close_tag : Shape → List ℕ
 close_tag s = codes "</" ++ (tag s ++ codes ">\n")
 
@@ -141,19 +141,19 @@ element s numbers content = open_tag s numbers ++ (content ++ close_tag s)
 abbrev pub mark : Shape → List (Key × ℕ) → List ℕ
 mark s numbers = element s numbers []
 
--- A place.
+-- The attributes of a place.
 abbrev pub at : ℕ → ℕ → List (Key × ℕ)
 at x y = (key.X, x) ∷ (key.Y, y) ∷ []
 
--- A line between two places.
+-- The attributes of a line between two places.
 abbrev pub between : ℕ → ℕ → ℕ → ℕ → List (Key × ℕ)
 between x1 y1 x2 y2 = (key.X1, x1) ∷ (key.Y1, y1) ∷ (key.X2, x2) ∷ (key.Y2, y2) ∷ []
 
--- A width and a height,
+-- The attributes of a width and a height.
 abbrev pub sized : ℕ → ℕ → List (Key × ℕ)
 sized width height = (key.Width, width) ∷ (key.Height, height) ∷ []
 
--- and a rectangle of them at a place.
+-- The attributes of a rectangle at a place.
 abbrev pub rectangle : ℕ → ℕ → ℕ → ℕ → List (Key × ℕ)
 rectangle x y width height = (key.X, x) ∷ (key.Y, y) ∷ (key.Width, width) ∷ (key.Height, height) ∷ []
 
@@ -161,7 +161,7 @@ rectangle x y width height = (key.X, x) ∷ (key.Y, y) ∷ (key.Width, width) �
 abbrev pub words_at : Shape → ℕ → ℕ → List ℕ → List ℕ → List ℕ → List ℕ
 words_at s x y first middle last = element s (at x y) (escaped first ++ (escaped middle ++ escaped last))
 
--- A text of each number below a number, one after the other.
+-- `text i` for each number `i` below the first argument, one after the other.
 unfoldable pub each : ℕ → (ℕ → List ℕ) → List ℕ
 each zero text = []
 each (suc n) text = each n text ++ text n

@@ -7,12 +7,12 @@ use Rattle.std.specs.Char.{is_ascii_digit}
 abbrev pub is_gap : ℕ → Bool
 is_gap octet = (octet == 32) || (octet == 10) || (octet == 13)
 
--- Octets up to a place,
+-- The octets before a place; all where no place is given.
 abbrev pub up_to : Option ℕ → List ℕ → List ℕ
 up_to (Some place) octets = take place octets
 up_to None octets = octets
 
--- and from it on.
+-- The octets from a place on; none where no place is given.
 abbrev pub onward : Option ℕ → List ℕ → List ℕ
 onward (Some place) octets = drop place octets
 onward None octets = []
@@ -28,7 +28,7 @@ first_word octets = up_to (position is_gap (from_word octets)) (from_word octets
 abbrev pub after_word : List ℕ → List ℕ
 after_word octets = onward (position is_gap (from_word octets)) (from_word octets)
 
--- The word of a number, counted from 0; nothing where there are fewer.
+-- The word with the number `n`, counted from 0; nothing where there are fewer words.
 unfoldable pub word_at : ℕ → List ℕ → List ℕ
 word_at zero octets = first_word octets
 word_at (suc n) octets = word_at n (after_word octets)
@@ -44,7 +44,7 @@ abbrev pub with_digit : Option ℕ → ℕ → Option ℕ
 with_digit None digit = None
 with_digit (Some n) digit = next_number n digit
 
--- The number that was read, after these digits more.
+-- The number that is read where these digits follow `n`.
 unfoldable pub number_after : Option ℕ → List ℕ → Option ℕ
 number_after n [] = n
 number_after n (digit ∷ digits) = number_after (with_digit n digit) digits

@@ -12,7 +12,7 @@ use script_lang::Words;
 use std::alloc::{AllocError, Global};
 use std::marker::Model;
 
-// Rows of a picture.
+// How many rows a picture has at most.
 const MOST_ROWS: u32 = 2000;
 
 // The labels above the columns, and the rows so far.
@@ -72,7 +72,7 @@ impl Drawing {
         Ok(())
     }
 
-    // Takes a line that made this world.
+    // Takes a line whose world is `world`.
     pub fn take(
         &mut self,
         number: u32,

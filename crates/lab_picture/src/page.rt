@@ -242,7 +242,7 @@ fn put_under_rows(
     put_lifelines(out, members, columns, row_y(rows) - 14)
 }
 
-// Puts down what stands below them.
+// Puts down what stands below the rows.
 #[tactic(auto, unfolding(crate::specs::Page::below_rows))]
 fn put_below_rows(out: &mut Vec<u8>, rows: u32, more: u64) -> Result<(), AllocError>
     ensures { OnOk result (out.new.items ≡ out.old.items ++ below_rows rows more) }

@@ -73,7 +73,7 @@ impl Key {
 }
 
 impl Symbol {
-    // The name of the element that it is defined as.
+    // The name of the element that the symbol is defined as.
     pub fn tag(self) -> &'static [u8]
         ensures { result.now ≡ symbol_tag self }
     {
@@ -88,7 +88,7 @@ impl Symbol {
         }
     }
 
-    // The attributes that it has there.
+    // The attributes of the element that the symbol is defined as.
     pub fn style(self) -> &'static [u8]
         ensures { result.now ≡ symbol_style self }
     {
@@ -106,7 +106,7 @@ impl Symbol {
         }
     }
 
-    // The attribute by which it is placed.
+    // The attribute by which the symbol is placed.
     pub fn reference(self) -> &'static [u8]
         ensures { result.now ≡ symbol_reference self }
     {
@@ -150,7 +150,7 @@ impl Shape {
         }
     }
 
-    // The attributes that each of its kind has.
+    // The attributes that each element of this shape has.
     #[tactic(auto, unfolding(crate::specs::Svg::style))]
     pub fn style(self) -> &'static [u8]
         ensures { result.now ≡ style self }

@@ -3,7 +3,7 @@ ghost use Rattle.std.specs.Str.{bytes_eq};
 ghost use Rattle.lab_picture.specs.Words.{after_word, first_word, from_word, is_gap, next_number, number_of};
 ghost use Rattle.lab_picture.specs.Words.{with_digit, word_at};
 
-// The word of a number, counted from 0; nothing where there are fewer.
+// The word with the number `number`, counted from 0; nothing where there are fewer words.
 pub(crate) fn word(octets: &[u8], number: u32) -> &[u8]
     ensures { result.now ≡ word_at number octets.now }
 {
@@ -65,7 +65,7 @@ fn is_gap(octet: u8) -> bool
     octet == b' ' || octet == b'\n' || octet == b'\r'
 }
 
-// Whether a word is this one.
+// Whether the two words are the same.
 pub(crate) fn is_word(word: &[u8], other: &[u8]) -> bool
     ensures { result ≡ bytes_eq word.now other.now }
 {

@@ -9,7 +9,7 @@ use Rattle.group_model.specs.Member.{catalogued, is_listed}
 use Rattle.group_model.specs.World.{World, catalogue_at, logs, member}
 use Rattle.group_model.proofs.Tries.{filter_short}
 
--- there are no more than publications
+-- a catalogue lists no more entries than there are publications
 pub few_listed : (w : World) (j : ℕ) → length (catalogue_at w j) ≤ length (published (logs w))
 few_listed w j =
     let same : length (catalogue_at w j) ≡ length (catalogued (logs w) (member w j)) =

@@ -24,7 +24,7 @@ pub if_ok : {A E : Type 0} (P Q : A → Type 0) → ((a : A) → P a → Q a) �
 if_ok P Q f (Ok a) p = f a p
 if_ok P Q f (Err e) p = tt
 
--- Two runs end alike.
+-- The runs `s` and `t` end alike.
 pub record EndsAlike (s t : ScriptRun) : Type 0 where
   pub ending : s.ending ≡ t.ending
   pub world : s.world ≡ t.world
@@ -93,7 +93,7 @@ module _ (env : RunEnvironment) (r : Reached) (line : List ℕ) (others : List (
       )
   stops error.NoMemory e is end = absurd end
 
--- no line is left
+-- no line follows
 last : (env : RunEnvironment) (r : Reached) (cut : Bool) (e : SeedEnd) → EndsAfter r cut e
     → IsEndOf (cut_at cut (r.lines + 1) (run_from env r [])) e
 unfolding run_from
@@ -102,7 +102,7 @@ last env r false e is = subst (IsEndOf (run_from env r [])) (sym is) (record { e
 
 -- ---- a script
 
--- Lines were carried out, and these are left.
+-- The lines of the script before `left` were carried out.
 pub record Carries (env : RunEnvironment) (s : ScriptLines) (left : List (List ℕ)) (r : Reached) : Type 0 where
   pub alike : EndsAlike (run_from env nothing_reached s.lines) (run_from env r left)
   pub count : r.lines + length left ≡ length s.lines

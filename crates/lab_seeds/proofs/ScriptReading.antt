@@ -85,7 +85,8 @@ before_before a b s =
 
 -- ---- what is read
 
--- So much is held of an input, these lines of its script were read, and the totals are these.
+-- The lines `prefix` of the script were read with the totals `t`, and `held` and `rest` are the octets that follow
+-- them.
 pub record Reads (held : List ℕ) (prefix : List (List ℕ)) (t : Totals) (input rest : List ℕ) : Type 0 where
   pub script : script_of input ≡ lines_before prefix (script_from t (lines (held ++ rest)))
 

@@ -1,4 +1,4 @@
--- What comes of ends of seeds that follow one another.
+-- The text and the status by the ends of seeds that follow one another.
 use Rattle.std.proofs.Common.{◌≡◌, ◌≢◌, ℕ, suc, ◌+◌, ◌<◌, true, false, List, [], ◌∷◌, ◌++◌}
 use Rattle.std.proofs.Common.{length, take, get_or, map, Option, Some, IfSome, refl, sym, ap, subst, ◌∙◌}
 use Rattle.std.proofs.Common.{arith, inl, inr, ◌⊎◌}
@@ -106,7 +106,7 @@ module _ (script_run : ℕ → ScriptRun) where
     pub status_is : ends_status ends ≡ (outcome_over script_run (numbers_from first count)).status
     status_is = rw (← len) (rw (done first ends are) refl)
 
--- the ends that all are there
+-- what holds of each end that was found holds of the ends, where all were found
 pub ends_there : (ends : List SeedEnd) (found : List (Option SeedEnd)) (P : ℕ → SeedEnd → Type 0)
     → map Some ends ≡ found
     → ((k : ℕ) (d : Option SeedEnd) → k < length found → IfSome (get_or found k d) (P k))

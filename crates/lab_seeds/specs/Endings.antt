@@ -11,12 +11,12 @@ use Rattle.lab_seeds.specs.declared.end.SeedEnd.TheVariants.{Done, Refused, Fore
 use Rattle.lab_seeds.specs.declared.figures.Figures.{Figures}
 use Rattle.lab_seeds.specs.Counted.{figures_at}
 
--- All lines of the run were taken, and so much was counted.
+-- All lines of the run `s` were taken, and `f` is what was counted at its end.
 pub record IsDoneWith (s : ScriptRun) (f : Figures) : Type 0 where
   pub ending : s.ending ≡ ending.Done
   pub figures : f ≡ figures_at s.world
 
--- The run ended so.
+-- The run `s` ended as the `SeedEnd` says.
 abbrev pub IsEndOf : ScriptRun → SeedEnd → Type 0
 IsEndOf s (Done f) = IsDoneWith s f
 IsEndOf s (Refused line why) = s.ending ≡ ending.Refused line (refusal_number why)
@@ -24,24 +24,25 @@ IsEndOf s (Foreign line) = s.ending ≡ ending.Foreign line
 
 -- ---- as a script is carried out
 
--- The end is that of a script that stops so at a line.
+-- `end` is the end of a script that stops at line `line` with this error.
 abbrev pub IsEndAt : ℕ → LineError → SeedEnd → Type 0
 IsEndAt line (error.Refused why) end = end ≡ Refused line why
 IsEndAt line error.Foreign end = end ≡ Foreign line
 IsEndAt line error.NoMemory end = ⊥
 
--- The end is that of a script whose lines were taken, where another line may follow that leaves a limit.
+-- `end` is the end of a script whose lines were all taken. `true` means that another line follows them, which exceeds a
+-- limit.
 abbrev pub EndsAfter : Reached → Bool → SeedEnd → Type 0
 EndsAfter r true end = end ≡ Refused (r.lines + 1) Limit
 EndsAfter r false end = end ≡ Done (figures_at r.state.world)
 
 -- ---- seeds that follow one another
 
--- The run of a seed ended so.
+-- The run of the seed `seed` ended as `e` says.
 abbrev pub HasEnd : (ℕ → ScriptRun) → ℕ → SeedEnd → Type 0
 HasEnd script_run seed e = IsEndOf (script_run seed) e
 
--- These are how the runs of the seeds from the first on ended.
+-- The runs of the seeds from `first` on, one after the other, ended as the list of ends says.
 abbrev pub AreEnds : (ℕ → ScriptRun) → ℕ → List SeedEnd → Type 0
 AreEnds script_run first [] = ⊤
 AreEnds script_run first (e ∷ ends) = IsEndOf (script_run first) e × AreEnds script_run (first + 1) ends

@@ -24,7 +24,7 @@ end_figures (Done f) = f ∷ []
 end_figures (Refused line why) = []
 end_figures (Foreign line) = []
 
--- The same of seeds that follow one another.
+-- What is written of the seeds from `first` on, one after the other.
 abbrev pub ends_text : ℕ → List SeedEnd → List ℕ
 ends_text first [] = []
 ends_text first (e ∷ ends) = end_text first e ++ ends_text (first + 1) ends

@@ -7,7 +7,7 @@ use Rattle.lab_text.specs.LineTexts.{without_feed}
 use Rattle.lab_text.specs.Notes.{is_note}
 use Rattle.lab_seeds.specs.declared.input.Totals.{Totals}
 
--- How many lines and octets an input may have, its notes among them.
+-- How many lines an input may have, its notes among them.
 abbrev pub input_lines : ℕ
 input_lines = 1000000
 
@@ -19,7 +19,7 @@ input_octets = 300000000
 abbrev pub no_totals : Totals
 no_totals = record { lines = 0; octets = 0; script_lines = 0; script_octets = 0 }
 
--- The totals with a line more.
+-- The totals with one more line.
 abbrev pub with_line : Totals → List ℕ → Totals
 with_line t line = record {
   lines = t.lines + 1;
@@ -33,12 +33,12 @@ abbrev pub fits_input : Totals → List ℕ → Bool
 fits_input t line = nat_le (length (without_feed line)) line_octets && nat_lt t.lines input_lines
     && nat_le (t.octets + length line) input_octets
 
--- It is within the limits of a script.
+-- One more line of the script is within the limits of a script.
 abbrev pub fits_script : Totals → List ℕ → Bool
 fits_script t line =
     nat_lt t.script_lines script_lines && nat_le (t.script_octets + length line) script_octets
 
--- A line leaves no limit.
+-- One more line exceeds no limit. A note isn't counted for the script.
 abbrev pub fits : Totals → List ℕ → Bool
 fits t line = fits_input t line && (is_note line || fits_script t line)
 
@@ -51,11 +51,11 @@ pub record ScriptLines : Type 0 where
 abbrev pub script_lines_are : List (List ℕ) → Bool → ScriptLines
 script_lines_are lines cut = record { lines = lines; cut = cut }
 
--- A line before others. A note is left out.
+-- The script `s` with `line` before its lines. A note is left out.
 abbrev pub line_before : List ℕ → ScriptLines → ScriptLines
 line_before line s = if is_note line then s else script_lines_are (line ∷ s.lines) s.cut
 
--- The script of lines that follow those so far.
+-- The script of lines, where `t` are the totals of the lines before them.
 unfoldable pub script_from : Totals → List (List ℕ) → ScriptLines
 script_from t [] = script_lines_are [] false
 script_from t (line ∷ others) =

@@ -14,7 +14,7 @@ abbrev pub greatest : List ℕ → ℕ
 greatest [] = 0
 greatest (n ∷ ns) = fold max n ns
 
--- At least half of the numbers are not above this one.
+-- At least half of the numbers are not above `m`.
 abbrev pub is_half_reached : List ℕ → ℕ → Bool
 is_half_reached ns m = nat_le (length ns) (2 * count_by (λ n. nat_le n m) ns)
 
@@ -23,7 +23,7 @@ is_half_reached ns m = nat_le (length ns) (2 * count_by (λ n. nat_le n m) ns)
 abbrev pub median : List ℕ → ℕ
 median ns = least (filter (is_half_reached ns) ns)
 
--- Figures of which each number is picked from those of its kind.
+-- Figures of which each number is what `pick` gives for the numbers of its kind in `all`.
 abbrev pub each_picked : (List ℕ → ℕ) → List Figures → Figures
 each_picked pick all = record {
   syncs = pick (map (λ (f : Figures). f.syncs) all);

@@ -10,7 +10,7 @@ use Rattle.lab_seeds.specs.Inputs.{ScriptLines, fits, input_lines, input_octets,
 
 -- ---- what is kept
 
--- Lines, each without where it lies in memory.
+-- The octets of each of `lines`.
 abbrev pub octets_of : {A : Type 0} → List (Vec ℕ A) → List (List ℕ)
 octets_of lines = map (λ line. line.items) lines
 
@@ -27,11 +27,11 @@ pub record AreWithin (t : Totals) : Type 0 where
   pub script_lines : t.script_lines ≤ script_lines
   pub script_octets : t.script_octets ≤ script_octets
 
--- A line that is kept, unless it is a note.
+-- The line that is kept of `line`: none if it is a note.
 abbrev pub kept_line : List ℕ → List (List ℕ)
 kept_line line = if is_note line then [] else line ∷ []
 
--- A line was taken, which leaves no limit.
+-- The line `line` was taken, which exceeds no limit.
 pub record Takes (old : SoFar) (line : List ℕ) (new : SoFar) : Type 0 where
   pub fits : fits old.totals line ≡ true
   pub totals : new.totals ≡ with_line old.totals line
@@ -39,17 +39,17 @@ pub record Takes (old : SoFar) (line : List ℕ) (new : SoFar) : Type 0 where
 
 -- ---- an input
 
--- Lines before those of a script.
+-- The script `s` with the lines `prefix` before its own.
 abbrev pub lines_before : List (List ℕ) → ScriptLines → ScriptLines
 lines_before prefix s = script_lines_are (prefix ++ s.lines) s.cut
 
--- What holds of an input and of what is left of it, where both are known.
+-- If the input is known, so is the rest of it that is still unread, and `P` holds of the two.
 abbrev pub Known : Option (List ℕ) → Option (List ℕ) → (List ℕ → List ℕ → Type 0) → Type 0
 Known None now P = ⊤
 Known (Some input) None P = ⊥
 Known (Some input) (Some rest) P = P input rest
 
--- The script of an input was read: to its end, unless a line leaves a limit.
+-- `script` is the script of the input. Unless a line exceeds a limit, the input was read to its end.
 pub record IsRead (script : Kept) (input rest : List ℕ) : Type 0 where
   pub whole : script_of input ≡ lines_read script
   pub ended : script.cut ≡ false → rest ≡ []

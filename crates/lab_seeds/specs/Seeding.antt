@@ -37,13 +37,13 @@ refusals =
 abbrev pub word_of : ℕ → List ℕ
 word_of number = flat_map (λ why. if refusal_number why == number then refusal_word why else []) refusals
 
--- How the run of a seed ended, and what was counted at its end.
+-- The line that is written of `seed`, by how its run ended and by the world at its end.
 abbrev pub ending_text : ℕ → Ending → Option World → List ℕ
 ending_text seed ending.Done world = done_text seed (figures_at world)
 ending_text seed (ending.Refused line number) world = refused_text seed line number (word_of number)
 ending_text seed (ending.Foreign line) world = foreign_text seed line
 
--- The line that is written of a seed whose run this is.
+-- The line that is written of `seed`, whose run is `s`.
 abbrev pub seed_text : ℕ → ScriptRun → List ℕ
 seed_text seed s = ending_text seed s.ending s.world
 

@@ -40,7 +40,7 @@ ranks_lines r =
     codes "least" ++ figures_text r.least ++ codes "median" ++ figures_text r.median ++ codes "greatest"
     ++ figures_text r.greatest
 
--- The same of figures, and nothing where there are none.
+-- The lines of the least, the median and the greatest of figures; nothing where there are no figures.
 abbrev pub ranks_text : List Figures → List ℕ
 ranks_text [] = []
 ranks_text (f ∷ all) = ranks_lines (ranks_among (f ∷ all))

@@ -9,7 +9,7 @@ use std::alloc::{AllocError, Global};
 // How the run of a seed ended.
 #[derive(Clone, Copy)]
 pub(crate) enum SeedEnd {
-    // All lines were taken, and so much was counted.
+    // All lines were taken. The figures are what was counted.
     Done(Figures),
     // The first line that is refused, counted from 1.
     Refused { line: u32, refusal: Refusal },

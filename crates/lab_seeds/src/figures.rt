@@ -3,7 +3,7 @@
 pub(crate) struct Figures {
     // The sync Interests that were sent.
     pub(crate) syncs: u64,
-    // Those that were delivered.
+    // The sync Interests that were delivered.
     pub(crate) delivered: u64,
     // The attempts at parts.
     pub(crate) attempts: u64,
@@ -15,7 +15,7 @@ pub(crate) struct Figures {
     pub(crate) listed: u64,
 }
 
-// Those of a script without an event.
+// The figures of a script without an event.
 pub(crate) const NO_FIGURES: Figures = Figures {
     syncs: 0,
     delivered: 0,

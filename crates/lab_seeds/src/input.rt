@@ -17,14 +17,14 @@ use std::alloc::{AllocError, Global};
 // How many lines an input may have, notes among them.
 const INPUT_LINES: u32 = 1_000_000;
 
-// How many octets it may have.
+// How many octets an input may have, notes among them.
 const INPUT_LIMIT: usize = 300_000_000;
 
 // The lines of a script without its notes, each with its line feed.
 #[derive(Drop)]
 pub(crate) struct ScriptLines {
     pub(crate) lines: Vec<Vec<u8>>,
-    // Another line follows them, which leaves a limit.
+    // Whether another line follows these, which exceeds a limit.
     pub(crate) cut: bool,
 }
 
@@ -49,7 +49,7 @@ impl Totals {
         }
     }
 
-    // Whether a line more leaves no limit.
+    // Whether one more line exceeds no limit.
     fn fits(&self, line: &[u8]) -> bool
         requires { AreWithin self.now }
         ensures { result ≡ fits self.now line.now }
@@ -57,7 +57,7 @@ impl Totals {
         self.fits_input(line) && (is_note(line) || self.fits_script(line))
     }
 
-    // Whether it leaves no limit of the input.
+    // Whether one more line exceeds no limit of a line or of the input.
     fn fits_input(&self, line: &[u8]) -> bool
         requires { AreWithin self.now }
         ensures { result ≡ fits_input self.now line.now }
@@ -67,7 +67,7 @@ impl Totals {
             && self.octets + line.len() <= INPUT_LIMIT
     }
 
-    // Whether it leaves no limit of the script.
+    // Whether one more line of the script exceeds no limit of the script.
     fn fits_script(&self, line: &[u8]) -> bool
         requires { AreWithin self.now }
         ensures { result ≡ fits_script self.now line.now }
@@ -75,7 +75,7 @@ impl Totals {
         self.script_lines < LINES_LIMIT && self.script_octets + line.len() <= SCRIPT_LIMIT
     }
 
-    // Counts a line that leaves no limit.
+    // Counts a line that exceeds no limit.
     fn count(self, line: &[u8]) -> Totals
         requires within { AreWithin self }
         requires fits { fits self line.now ≡ true }
@@ -130,7 +130,7 @@ impl SoFar {
         }
     }
 
-    // Takes one line more, unless it leaves a limit. A note is counted, and not kept.
+    // Takes one more line, unless it exceeds a limit. A note is counted, and not kept.
     fn take(&mut self, line: &[u8]) -> Result<bool, AllocError>
         requires { AreWithin self.old.totals }
         ensures within { AreWithin self.new.totals }
@@ -149,7 +149,7 @@ impl SoFar {
         Ok(true)
     }
 
-    // The script, which no line follows.
+    // The script, where no line follows those that were taken.
     fn whole(self) -> ScriptLines
         ensures { lines_read result ≡ script_lines_are (octets_of self.lines.items) false }
     {
@@ -159,7 +159,7 @@ impl SoFar {
         }
     }
 
-    // The script before a line that leaves a limit.
+    // The script before a line that exceeds a limit.
     fn cut_off(self) -> ScriptLines
         ensures { lines_read result ≡ script_lines_are (octets_of self.lines.items) true }
     {
@@ -186,7 +186,7 @@ impl SoFar {
     }
 }
 
-// Reads the script of the source. After the first line that leaves a limit no more is read.
+// Reads the script of the source. After the first line that exceeds a limit no more is read.
 pub(crate) fn read_script<S: Source>(
     alloc: Global,
     source: &mut S,

@@ -12,7 +12,7 @@ pub(crate) struct Ranks {
     pub(crate) greatest: Figures,
 }
 
-// The same of one kind of number.
+// The least, the median and the greatest of one kind of number.
 #[derive(Clone, Copy)]
 struct Rank {
     least: u64,

@@ -38,8 +38,8 @@ pub fn seeds<R: Threads + Sync, S: Source, K: Sink>(
     requires few { last - first < 10000 }
     requires workers { (1 ≤ workers) × (workers ≤ 16) }
 
-    // At the end of its text the status is that of the runs under the seeds, and what was written is their text,
-    // whatever the number of workers and their turns. Whatever comes, it is a prefix of that text.
+    // Where the text was written to its end, it is the text of the runs under the seeds, and the status is theirs,
+    // whatever the number of workers and their turns. In any case what was written is a prefix of that text.
     ensures writes { WritesOutcome (option_map (seeds_of first last) (S.left source.old))
         (K.out sink.old) (K.out sink.new) result }
 
@@ -60,7 +60,7 @@ pub fn seeds<R: Threads + Sync, S: Source, K: Sink>(
     write_seeds(rt, alloc, first, count, workers, &script, sink)
 }
 
-// Carries out a script under so many seeds, and writes the result of each and of all.
+// Carries out a script under `count` seeds from `first` on, and writes the result of each seed and of all together.
 fn write_seeds<R: Threads + Sync, K: Sink>(
     rt: &R,
     alloc: Global,
@@ -87,7 +87,7 @@ fn write_seeds<R: Threads + Sync, K: Sink>(
     }
 }
 
-// How the runs of so many seeds ended, in their order.
+// How the runs of the `count` seeds from `first` on ended, in their order.
 fn ends_of<R: Threads + Sync>(
     rt: &R,
     alloc: Global,
@@ -105,7 +105,7 @@ fn ends_of<R: Threads + Sync>(
     ends_in(rt, alloc, first, workers, script, &mut room)
 }
 
-// The same, with capacity for each.
+// How the runs of the seeds from `first` on ended, in their order: of as many seeds as `room` has places.
 fn ends_in<R: Threads + Sync>(
     rt: &R,
     alloc: Global,
@@ -123,7 +123,8 @@ fn ends_in<R: Threads + Sync>(
     all_there(alloc, room)
 }
 
-// Puts each end in its place. Each worker carries out some seeds that stand beside each other, one after another.
+// Puts into each place of `room` how the run of its seed ended, from the seed `first` on. Each worker carries out some
+// seeds that stand beside each other, one after another.
 fn put_ends<R: Threads + Sync>(
     rt: &R,
     alloc: Global,
@@ -160,7 +161,7 @@ fn seed_end<R: Threads + Sync>(
     end_of(rt, alloc, script, &seeded(seed)).ok()
 }
 
-// The ends, if memory ran out at none of them.
+// The ends, if memory ran out in no run.
 fn all_there(alloc: Global, ends: &[Option<SeedEnd>]) -> Result<Vec<SeedEnd>, AllocError>
     ensures { IfOk result (λ all. map Some all.items ≡ ends.now) }
 {

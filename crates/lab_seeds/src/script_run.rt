@@ -39,7 +39,7 @@ pub(crate) fn end_of<R: Threads + Sync>(
     Ok(end_after(&state, script.cut))
 }
 
-// The end at the line of this number.
+// How a run ends that stops at line `line` with this error.
 fn stopped(line: u32, error: LineError) -> Result<SeedEnd, AllocError>
     ensures { IfOk result (IsEndAt line error) }
 {
@@ -50,7 +50,7 @@ fn stopped(line: u32, error: LineError) -> Result<SeedEnd, AllocError>
     }
 }
 
-// The end after all lines, which another may follow that leaves a limit.
+// How a run ends after all lines that were read. If `cut`, another line follows them, which exceeds a limit.
 fn end_after(script: &Script, cut: bool) -> SeedEnd
     requires { IsScript script.now }
     ensures { EndsAfter (reached script.now) cut result }

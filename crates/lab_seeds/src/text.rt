@@ -9,7 +9,7 @@ use crate::figures::Figures;
 use crate::ranks::{Ranks, ranks_of};
 use std::alloc::{AllocError, Global};
 
-// The text by how the runs of the seeds from the first on ended.
+// The text of the runs of the seeds from `first` on, by how they ended.
 pub(crate) fn text_of(alloc: Global, first: u64, ends: &[SeedEnd]) -> Result<String, AllocError>
     requires { first + length ends.now ≤ 2 ^ 64 }
     ensures { IfOk result (λ text. string_bytes text
@@ -23,7 +23,7 @@ pub(crate) fn text_of(alloc: Global, first: u64, ends: &[SeedEnd]) -> Result<Str
 
 // Each call appends its text. Where memory runs out, a part of it may stand there.
 
-// The line of each seed from the first on.
+// Appends the line of each seed from `first` on.
 fn put_ends(text: &mut String, first: u64, ends: &[SeedEnd]) -> Result<(), AllocError>
     requires { first + length ends.now ≤ 2 ^ 64 }
     ensures { OnOk result (string_bytes text.new ≡ string_bytes text.old ++ ends_text first ends.now) }
@@ -74,7 +74,7 @@ fn put_foreign(text: &mut String, seed: u64, line: u32) -> Result<(), AllocError
     write!(text, "seed {seed} foreign {line}\n")
 }
 
-// Each figure after its word, and a line feed.
+// Appends each figure after its word, and a line feed.
 #[tactic(auto, unfolding(crate::specs::Texts::figures_text))]
 fn put_figures(text: &mut String, figures: &Figures) -> Result<(), AllocError>
     ensures { OnOk result (string_bytes text.new ≡ string_bytes text.old ++ figures_text figures.now) }
@@ -84,7 +84,7 @@ fn put_figures(text: &mut String, figures: &Figures) -> Result<(), AllocError>
     text.push_str("\n")
 }
 
-// What was sent and asked for.
+// Appends what was sent and asked for, each number after its word.
 #[tactic(auto, unfolding(crate::specs::Texts::traffic_text))]
 fn put_traffic(text: &mut String, figures: &Figures) -> Result<(), AllocError>
     ensures { OnOk result (string_bytes text.new ≡ string_bytes text.old ++ traffic_text figures.now) }
@@ -101,7 +101,7 @@ fn put_traffic(text: &mut String, figures: &Figures) -> Result<(), AllocError>
     )
 }
 
-// What was fetched, and what is listed.
+// Appends what was fetched and what is listed, each number after its word.
 #[tactic(auto, unfolding(crate::specs::Texts::holdings_text))]
 fn put_holdings(text: &mut String, figures: &Figures) -> Result<(), AllocError>
     ensures { OnOk result (string_bytes text.new ≡ string_bytes text.old ++ holdings_text figures.now) }
@@ -115,7 +115,7 @@ fn put_holdings(text: &mut String, figures: &Figures) -> Result<(), AllocError>
     write!(text, " parts {parts} octets {octets} listed {listed}")
 }
 
-// The least, the median and the greatest of some figures, if there are any.
+// Appends the least, the median and the greatest of some figures, if there are any.
 fn put_ranks(text: &mut String, alloc: Global, all: &[Figures]) -> Result<(), AllocError>
     ensures { OnOk result (string_bytes text.new ≡ string_bytes text.old ++ ranks_text all.now) }
 {
@@ -126,7 +126,7 @@ fn put_ranks(text: &mut String, alloc: Global, all: &[Figures]) -> Result<(), Al
     put_ranks_lines(text, &ranks)
 }
 
-// Three lines.
+// Appends the lines of the least, the median and the greatest figures.
 #[tactic(auto, unfolding(crate::specs::Texts::ranks_lines))]
 fn put_ranks_lines(text: &mut String, ranks: &Ranks) -> Result<(), AllocError>
     ensures { OnOk result (string_bytes text.new ≡ string_bytes text.old ++ ranks_lines ranks.now) }

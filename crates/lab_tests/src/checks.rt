@@ -59,7 +59,7 @@ pub(super) fn expect_from<R: Threads + Sync + AllocGlobal + Abort, S: Source>(
     same(rt, answered, wanted, words);
 }
 
-// A source of these octets in pieces of so many, of which these calls fail.
+// A source of these octets in pieces of `piece` octets, of which the calls `fails` fail.
 pub(super) fn source_of(
     rt: &(impl Abort + AllocGlobal),
     octets: &[u8],

@@ -24,7 +24,7 @@ fn run_failing<R: Threads + Sync + AllocGlobal + Abort>(
     answered
 }
 
-// The lines of the transcript of which the whole was read: so many octets of it, which is its own transcript.
+// The whole lines among the first `octets` octets of the transcript: a transcript by themselves.
 fn lines_within(rt: &(impl Abort + AllocGlobal), octets: usize) -> String {
     let mut text = String::new(rt.alloc());
     let mut end: usize = 0;

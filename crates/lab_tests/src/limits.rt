@@ -33,7 +33,7 @@ const FILLED: [(&str, usize, LabStatus, &str); 6] = [
     ),
 ];
 
-// A note that is filled with spaces to so many octets.
+// A note that is filled with spaces, to `octets` octets.
 fn filled(rt: &(impl Abort + AllocGlobal), octets: usize) -> String {
     let mut note = String::from_str(rt.alloc(), "#=").expect(rt, "memory");
     for _ in 2..octets {

@@ -260,7 +260,7 @@ fn scripts_are_drawn(rt: HostRuntime) {
     expect_rows(&rt, &PICTURES);
 }
 
-// A script of so many lines of which something is to be seen.
+// A script with `lines` lines that a picture shows.
 fn restarts(rt: &(impl Abort + AllocGlobal), lines: usize) -> String {
     let mut script = String::from_str(rt.alloc(), "group /g\nmember alice /alice 6b31\n").expect(
         rt, "memory",
@@ -271,7 +271,7 @@ fn restarts(rt: &(impl Abort + AllocGlobal), lines: usize) -> String {
     script
 }
 
-// Expects so many pieces between the rules of rows, and what is said of the other rows.
+// Expects `pieces` pieces between the rules of rows in a picture of `lines` lines, and `more` of the other rows.
 fn expect_drawn<R: Threads + Sync + AllocGlobal + Abort>(
     rt: &R,
     lines: usize,

@@ -20,7 +20,7 @@ abbrev pub is_span : Span → Bool
 is_span s =
     nat_le s.first s.last && nat_lt (s.last - s.first) 10000 && nat_le 1 s.workers && nat_le s.workers 16
 
--- What is asked for is within these limits.
+-- What is asked for is within its limits: those of `is_span` for the seeds, none for another form.
 abbrev pub IsWithin : Asked → Type 0
 IsWithin (Transcript seed) = ⊤
 IsWithin (Trace seed) = ⊤
@@ -30,7 +30,7 @@ IsWithin (Seeds s) = is_span s ≡ true
 IsWithin (Capture seed) = ⊤
 IsWithin (Draw seed) = ⊤
 
--- Seeds and workers, where these are numbers within the limits.
+-- The seeds and the workers, where all three numbers are given and within the limits.
 abbrev pub span_from : Option ℕ → Option ℕ → Option ℕ → Option Span
 span_from (Some first) (Some last) (Some workers) =
     let s : Span = record { first = first; last = last; workers = workers } in if is_span s then Some s else None
@@ -41,7 +41,7 @@ abbrev pub span_of : List (List ℕ) → Option Span
 span_of (first ∷ last ∷ workers ∷ []) = span_from (number_of first) (number_of last) (number_of workers)
 span_of _ = None
 
--- No word follows.
+-- `lint` is asked for, if no word follows it.
 abbrev pub alone : List (List ℕ) → Option Asked
 alone [] = Some Lint
 alone (word ∷ others) = None

@@ -29,7 +29,7 @@ form_outcome (Seeds s) input = seeds_of s.first s.last input
 form_outcome (Capture seed) input = capture_of (given_of seed) input
 form_outcome (Draw seed) input = draw_of (given_of seed) input
 
--- The outcome of words that ask for nothing that there is: the usage text.
+-- The outcome of words that are no form: the usage text.
 abbrev pub usage_outcome : Outcome
 usage_outcome = record { text = usage_text; status = Usage }
 
@@ -38,14 +38,14 @@ abbrev pub lab_outcome : Option Asked → Option (List ℕ) → Option Outcome
 lab_outcome None input = Some usage_outcome
 lab_outcome (Some asked) input = option_map (form_outcome asked) input
 
--- The words alone decide on `Usage`.
+-- Whether the status is `Usage` depends on the words alone.
 pub record UsageIsOfWords (asked : Option Asked) (status : LabStatus) (SameSource : Type 0)
     (old new : Option (List ℕ)) (SinkFailed : Type 0) : Type 0 where
-  -- It comes exactly where they are no form.
+  -- The status is `Usage` exactly where the words are no form.
   pub usage : (status ≡ Usage) ↔ (asked ≡ None)
-  -- Then nothing is read,
+  -- On `Usage` nothing is read.
   pub unread : status ≡ Usage → SameSource
-  -- and unless the sink fails the usage is written.
+  -- On `Usage` the usage text is written, unless the sink fails.
   pub written : status ≡ Usage → (SinkFailed → ⊥) → GainsText old new usage_text
 
 -- What a form reads, and what it has written by then: a transcript, a trace and a capture are written line by line, a

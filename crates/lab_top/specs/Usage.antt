@@ -9,6 +9,6 @@ usage_lines =
     ∷ codes "ndnlab lint" ∷ codes "ndnlab seeds FIRST LAST WORKERS" ∷ codes "ndnlab capture [SEED]"
     ∷ codes "ndnlab draw [SEED]" ∷ []
 
--- Each on a line of its own.
+-- The words of each form, on a line of their own.
 abbrev pub usage_text : List ℕ
 usage_text = flat_map (λ line. line ++ 10 ∷ []) usage_lines

@@ -9,7 +9,7 @@ use crate::words::number_of;
 pub(crate) enum Asked {
     // The script line by line, each with its report, under this seed.
     Transcript(u64),
-    // The same, and what each member and mirror is after each line.
+    // The transcript under this seed, and what each member and mirror is after each line.
     Trace(u64),
     // Whether each line's report is the one that its notes expect, under this seed.
     Check(u64),

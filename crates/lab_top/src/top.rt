@@ -37,12 +37,13 @@ pub fn run_lab<R: Threads + Sync, S: Source, K: Sink>(
     source: &mut S,
     sink: &mut K,
 ) -> LabStatus
-    // `Usage` comes exactly where the words are no form. Then nothing is read, and the usage is written.
+    // The status is `Usage` exactly where the words are no form. Then nothing is read, and the usage is written, unless
+    // the sink fails.
     ensures usage { UsageIsOfWords (asked_of (map string_bytes words.now)) result (source.new ≡ source.old)
         (K.out sink.old) (K.out sink.new) (HasRisen (K.faults sink.old) (K.faults sink.new)) }
 
     // On `Done`, `Refused`, `Foreign` and `Differs` the status is the one of the outcome that the words ask for, and
-    // what was written is its text. Whatever comes, it is a prefix of that text.
+    // what was written is its text. In any case what was written is a prefix of that text.
     ensures writes { WritesOutcome (lab_outcome (asked_of (map string_bytes words.now)) (S.left source.old))
         (K.out sink.old) (K.out sink.new) result }
 

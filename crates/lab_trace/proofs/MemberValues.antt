@@ -54,7 +54,7 @@ members_figures s m a figures consistent there is timer held wants lists listed 
       };
     }
 
--- All that a note says of it.
+-- The values that a note says of a member are those of the world.
 pub members_values_are : (s : GroupState) (m : ℕ) (a : MemberState) (known : List ℕ) (figures : Figures)
     → m < length s.members → a ≡ state_at s.members m → known ≡ a.known → figures ≡ member_figures (world_of s) m
     → values_of known figures ≡ member_values (world_of s) m

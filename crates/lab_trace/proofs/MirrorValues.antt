@@ -130,7 +130,7 @@ mirrors_figures s i m figures consistent there is timer held wants lists =
       };
     }
 
--- All that a note says of it.
+-- The values that a note says of a mirror are those of the run.
 pub mirrors_values_are : (s : GroupState) (i : ℕ) (m : MirrorState) (known : List ℕ) (figures : Figures)
     → i < length s.mirrors → m ≡ mirror_at s.mirrors i → known ≡ m.known
     → figures ≡ mirror_figures (world_of s) (mirror_of (map mirror_as s.mirrors) i)

@@ -11,12 +11,12 @@ use Rattle.lab_trace.specs.Changes.{change_text, changed, changes, notes_from}
 
 -- ---- the last notes, one after another
 
--- The next of them, where there is one, and those after it.
+-- `last` is the first of `rest`, if there is one, and `others` are those after it.
 record IsNext (rest others : List Values) (last : Option Values) : Type 0 where
   first : slice_get rest 0 ≡ last
   after : drop 1 rest ≡ others
 
--- What an iterator over them says of its next one: how many were left, and are left then.
+-- What an iterator over `rest` with `n` values gives: the next value, with `k` values after it, or none.
 abbrev pub Gives : (rest others : List Values) (n k : ℕ) → Option Values → Type 0
 Gives rest others n k last = MatchOption last ((n ≡ 0) × (k ≡ 0)) (λ x. (rest ≡ x ∷ others) × (k + 1 ≡ n))
 
@@ -44,11 +44,12 @@ left_then rest others n k (Some v) are gives long =
 -- ---- noted up to a number
 
 module _ (labels : List (List ℕ)) (label : ℕ → List ℕ) (f : ℕ → Values) where
-  -- What is still to be written, from a number up to the last.
+  -- The notes that are still to be written, from the number `m` up to `count`.
   abbrev pub notes_left : ℕ → ℕ → List Values → List ℕ
   notes_left m count rest = notes_from labels label m (changes rest (map f (numbers_from m (count - m))))
 
-  -- Those below a number were noted: what is kept, what is left of the last notes, and what was written of the whole.
+  -- The members or mirrors with numbers below `m` were noted: their values are kept, `rest` are the last notes of the
+  -- others, and `text` is written of `whole`.
   pub record AreNoted (m count : ℕ) (kept rest : List Values) (n : ℕ) (text whole : List ℕ) : Type 0 where
     pub those : kept ≡ map f (numbers_from 0 m)
     pub written : text ++ notes_left m count rest ≡ whole
@@ -72,7 +73,7 @@ module _ (labels : List (List ℕ)) (label : ℕ → List ℕ) (f : ℕ → Valu
       ap (λ (k : ℕ). notes_from labels label m (changes rest (map f (numbers_from m k)))) more
       ∙ (λ i. change_text labels (label m) (changed (next.first i) (f m)) ++ notes_left (m + 1) count (next.after i))
 
-  -- The next one is noted, where it has something new.
+  -- The next member or mirror is noted, where the last note says something else.
   pub one_noted : (m count : ℕ) (kept rest : List Values) (n : ℕ) (text whole : List ℕ) (last : Option Values)
       (others : List Values) (k : ℕ) (v : Values) (new : List Values) (more : List ℕ)
       → AreNoted m count kept rest n text whole → m < count → rest ≡ option_to_list last ++ others
@@ -90,13 +91,13 @@ module _ (labels : List (List ℕ)) (label : ℕ → List ℕ) (f : ℕ → Valu
     long = left_then rest others n k last parts gives are.long;
   }
 
-  -- At the end all are kept,
+  -- At the end the values of all are kept.
   pub all_kept : (m count : ℕ) (kept rest : List Values) (n : ℕ) (text whole : List ℕ)
       → AreNoted m count kept rest n text whole → m ≡ count → kept ≡ map f (numbers_from 0 count)
   all_kept m count kept rest n text whole are end =
       are.those ∙ ap (λ (k : ℕ). map f (numbers_from 0 k)) end
 
-  -- and all is written.
+  -- At the end all notes are written.
   pub all_written : (m count : ℕ) (kept rest : List Values) (n : ℕ) (text whole : List ℕ)
       → AreNoted m count kept rest n text whole → m ≡ count → text ≡ whole
   unfolding changes notes_from

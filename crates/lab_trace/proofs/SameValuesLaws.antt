@@ -1,4 +1,4 @@
--- Values that are the same are equal, so whoever keeps the last ones knows what each is now; and how notes begin.
+-- Values that are the same are equal, so a reader who keeps the last ones knows what each is now; and how notes begin.
 use Rattle.std.proofs.Common.{◌≡◌, ℕ, Bool, true, false, ◌==◌, cond, List, [], ◌∷◌, Option, Some, None, drop, length}
 use Rattle.std.proofs.Common.{refl, ap}
 use Rattle.std.specs.Prelude.{slice_get}

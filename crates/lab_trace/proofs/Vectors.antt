@@ -51,7 +51,7 @@ no_more (l ∷ labels) (n ∷ numbers) (suc i) over = no_more labels numbers i (
   | inr b ↦ inr (omega (arith, b))
 ])
 
--- One number more was written,
+-- One more number was written.
 pub known_more : (labels : List (List ℕ)) (numbers : List ℕ) (i : ℕ) (label : List ℕ) (n : ℕ) (mid new whole : List ℕ)
     → slice_get labels i ≡ Some label → i < length numbers → n ≡ slice_index numbers i
     → mid ++ known_from i labels numbers ≡ whole → new ≡ mid ++ known_word label n
@@ -64,7 +64,7 @@ known_more labels numbers i label n mid new whole there within is w more =
     ∙ append_assoc mid (known_word label (slice_index numbers i)) (known_from (suc i) labels numbers)
     ∙ ap (λ (s : List ℕ). mid ++ s) (sym (next_known labels numbers i label there within)) ∙ w
 
--- and all were.
+-- All numbers were written.
 pub known_end : (labels : List (List ℕ)) (numbers : List ℕ) (i : ℕ) (mid whole : List ℕ)
     → min (length labels) (length numbers) ≤ i → mid ++ known_from i labels numbers ≡ whole → mid ≡ whole
 known_end labels numbers i mid whole over w =

@@ -17,22 +17,22 @@ is_same_mode Steady Steady = true
 is_same_mode Suppressed Suppressed = true
 is_same_mode _ _ = false
 
--- Timers in the same mode with the same deadline, or none.
+-- Both timers are in the same mode and have the same deadline, or both are missing.
 abbrev pub is_same_timer : Option Timer → Option Timer → Bool
 is_same_timer None None = true
 is_same_timer (Some a) (Some b) = is_same_mode a.mode b.mode && a.deadline == b.deadline
 is_same_timer _ _ = false
 
--- The same timer and the same numbers.
+-- The figures `a` and `b` have the same timer and the same counts.
 abbrev pub are_same_figures : Figures → Figures → Bool
 are_same_figures a b =
     is_same_timer a.timer b.timer && (a.counts.holds == b.counts.holds && (a.counts.wants == b.counts.wants
     && a.counts.lists == b.counts.lists))
 
--- Vectors of as many members of which each covers the other.
+-- The vectors `v` and `w` have the same number of members, and each covers the other.
 abbrev pub is_same_vector : List ℕ → List ℕ → Bool
 is_same_vector v w = length v == length w && (covers v w && covers w v)
 
--- The same figures, and the same vector.
+-- The values `a` and `b` have the same figures and the same vector.
 abbrev pub are_same : Values → Values → Bool
 are_same a b = are_same_figures a.figures b.figures && is_same_vector a.known b.known

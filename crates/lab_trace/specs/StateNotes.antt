@@ -34,7 +34,7 @@ member_counts w m = record {
 abbrev pub kept_by : World → Mirroring → List Part
 kept_by w m = filter (λ t. m.holds t && is_for m.pattern (logs w) (pair_of t)) (all_parts (logs w))
 
--- The same counts of a mirror.
+-- How many parts a mirror keeps, how many it wants, and how many entries it lists.
 abbrev pub mirror_counts : World → Mirroring → Counts
 mirror_counts w m = record {
   holds = length (kept_by w m);
@@ -42,24 +42,26 @@ mirror_counts w m = record {
   lists = length (mirrored_entries w m);
 }
 
--- The timer of a member, and its counts,
+-- The mode and the deadline of a member's timer.
 abbrev pub member_timer : World → ℕ → Timer
 member_timer w m = record {
   mode = mode_of (member w m).machine.heard;
   deadline = (member w m).machine.deadline;
 }
 
+-- The timer of a member, and its counts.
 abbrev pub member_figures : World → ℕ → Figures
 member_figures w m = record { timer = Some (member_timer w m); counts = member_counts w m }
 
--- and with its vector what a note says of it.
+-- What a note says of a member: its vector, its timer and its counts.
 abbrev pub member_values : World → ℕ → Values
 member_values w m = values_of (member w m).known (member_figures w m)
 
--- The same of a mirror, which has no timer.
+-- The counts of a mirror, which has no timer.
 abbrev pub mirror_figures : World → Mirroring → Figures
 mirror_figures w m = record { timer = None; counts = mirror_counts w m }
 
+-- What a note says of a mirror: its vector and its counts.
 abbrev pub mirror_values : World → List Mirroring → ℕ → Values
 mirror_values w mirrors i = values_of (mirror_of mirrors i).known (mirror_figures w (mirror_of mirrors i))
 
@@ -68,10 +70,11 @@ pub record Noted : Type 0 where
   pub members : List Values
   pub mirrors : List Values
 
--- Of those of a world.
+-- What notes say of the members of a world.
 abbrev pub members_values : World → List Values
 members_values w = map (member_values w) (numbers_from 0 (length w.members))
 
+-- What notes say of the mirrors.
 abbrev pub mirrors_values : List Mirroring → World → List Values
 mirrors_values mirrors w = map (mirror_values w mirrors) (numbers_from 0 (length mirrors))
 

@@ -15,11 +15,11 @@ use Rattle.lab_trace.specs.StateNotes.{Noted, member_labels, world_values}
 
 -- ---- what is new
 
--- The notes of the members,
+-- The new notes of the members.
 abbrev pub member_notes : Declared → List (Option Values) → List ℕ
 member_notes d changes = notes_from (member_labels d) (label_at (member_labels d)) 0 changes
 
--- and of the mirrors.
+-- The new notes of the mirrors.
 abbrev pub mirror_notes : Declared → List (Option Values) → List ℕ
 mirror_notes d changes = notes_from (member_labels d) (label_at d.mirrors) 0 changes
 
@@ -29,12 +29,13 @@ new_notes d last now =
 
 -- ---- after a line
 
--- What is written after a line, and what the last notes say then. Before the first event there is no world, and
--- nothing to note.
+-- The notes that are written after a line, where the last notes say `last`. Before the first event there is no world,
+-- and nothing to note.
 abbrev pub world_notes : Noted → Declared → List Mirroring → Option World → List ℕ
 world_notes last d mirrors None = []
 world_notes last d mirrors (Some w) = new_notes d last (world_values mirrors w)
 
+-- What the last notes say after a line.
 abbrev pub world_noted : Noted → List Mirroring → Option World → Noted
 world_noted last mirrors None = last
 world_noted last mirrors (Some w) = world_values mirrors w
@@ -54,7 +55,7 @@ state_noted last (Some s) = world_noted last s.mirrors s.world
 abbrev pub nothing_noted : Noted
 nothing_noted = record { members = []; mirrors = [] }
 
--- It keeps what the last notes say.
+-- The form of a trace. It keeps what the last notes say.
 abbrev pub trace_form : FormOf Noted
 trace_form = record {
   before = λ last state line. last;

@@ -3,8 +3,8 @@ ghost use Rattle.lab_trace.specs.declared.values.Values.{Values};
 ghost use Rattle.lab_trace.specs.Laws.{IsKnownBy, IsStateNote};
 ghost use Rattle.lab_trace.specs.NoteTexts.{note_text};
 
-/// A member or a mirror without a note after a line is what its last note says: whoever keeps what the last note of
-/// each says knows what each is after that line.
+/// A member or a mirror without a note after a line still is what its last note says. So a reader who keeps what the
+/// last note of each says knows what each is after that line.
 pub fn a_reader_knows_the_state()
     ensures { (last now : List Values) → IsKnownBy last now }
 {}

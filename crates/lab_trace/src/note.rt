@@ -12,7 +12,7 @@ use std::alloc::AllocError;
 use svs_sync::Mode;
 use svs_vector::Vector;
 
-// What is noted of a member or a mirror.
+// Appends the note of a member or a mirror.
 pub(crate) fn put_note(
     note: &mut Vec<u8>,
     words: &Words,
@@ -64,7 +64,7 @@ fn put_field(note: &mut Vec<u8>, word: &[u8], n: u64) -> Result<(), AllocError>
     note.extend_from_slice(Buffer::new().format(n).as_bytes())
 }
 
-// A vector, under the labels of its members.
+// Appends a vector, under the labels of its members.
 fn put_knows(note: &mut Vec<u8>, words: &Words, vector: &Vector) -> Result<(), AllocError>
     ensures { OnOk result (note.new.items ≡ note.old.items ++ knows_text (member_labels words.now) vector.now) }
 {
@@ -85,7 +85,7 @@ fn put_known(note: &mut Vec<u8>, label: &str, number: u16) -> Result<(), AllocEr
     note.extend_from_slice(Buffer::new().format(number).as_bytes())
 }
 
-// The counts, which end a note.
+// Appends the counts, which end a note.
 fn put_counts(note: &mut Vec<u8>, counts: Counts) -> Result<(), AllocError>
     ensures { OnOk result (note.new.items ≡ note.old.items ++ (counts_text counts ++ 10 ∷ [])) }
 {

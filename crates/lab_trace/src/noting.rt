@@ -19,7 +19,7 @@ use std::alloc::{AllocError, Global};
 use std::mem;
 use svs_vector::Vector;
 
-// Notes each member that is another than its last note says.
+// Appends a note of each member of which the last note says something else.
 pub(crate) fn note_members(
     alloc: Global,
     last: &mut Vec<Values>,
@@ -40,7 +40,7 @@ pub(crate) fn note_members(
     Ok(())
 }
 
-// The same of each mirror.
+// Appends a note of each mirror of which the last note says something else.
 pub(crate) fn note_mirrors(
     alloc: Global,
     last: &mut Vec<Values>,
@@ -61,7 +61,7 @@ pub(crate) fn note_mirrors(
     Ok(())
 }
 
-// Notes a member, unless the last note says the same, and answers what it is now.
+// Appends a note of the member `m`, unless the last note says the same, and returns what the member is now.
 fn note_member(
     alloc: Global,
     last: Option<Values>,
@@ -88,7 +88,7 @@ fn note_member(
     )
 }
 
-// The same of a mirror.
+// Appends a note of the mirror `i`, unless the last note says the same, and returns what the mirror is now.
 fn note_mirror(
     alloc: Global,
     last: Option<Values>,
@@ -155,7 +155,7 @@ fn note_new(
     })
 }
 
-// The label of a member. `?` stands for that of a number that is no member's.
+// The label of the member `m`, or `?` where there is no such member.
 fn member_label(words: &Words, m: u32) -> &str
     ensures { result.now ≡ label_at (member_labels words.now) m }
 {

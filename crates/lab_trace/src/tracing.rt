@@ -33,9 +33,9 @@ impl Model for Tracing {
     ghost view = { λ t. record { members = t.members.items; mirrors = t.mirrors.items } };
 }
 
-/// Writes the transcript of the script of the source, and after the report of each line a note of each member and then
-/// each mirror that is another than its last note says: all of a line before the next line is looked for. Notes of the
-/// script are left out.
+/// Writes the transcript of the script of the source, and after the report of each line a note of each member, and then
+/// of each mirror, of which the last note says something else. All of that is written before the next line is looked
+/// for. Notes of the script are left out.
 pub fn trace<R: Threads + Sync, S: Source, K: Sink, N: Net + Sync, D: Draws>(
     rt: &R,
     alloc: Global,
