@@ -44,7 +44,7 @@ ending_is_free : (m f : ℕ) (l : Option Loan) (e : LiveReply) → sum_by spends
 ending_is_free m f None e = refl
 ending_is_free m f (Some l) e = refl
 
--- What follows a claim takes no ticket.
+-- The calls after a claim take no ticket.
 rest_is_free : (m f : ℕ) (r : LiveReply) (l : Option Loan) (e : LiveReply) → sum_by spends (fetches m f r l e) ≡ 0
 rest_is_free m f (reply.Claimed p) l e = ending_is_free m f l e
 rest_is_free m f (reply.Published n) l e = refl
@@ -148,7 +148,7 @@ hears_snoc m (g ∷ gs) h =
     ap (λ cs. heard_calls m g ++ cs) (hears_snoc m gs h)
     ∙ sym (append_assoc (heard_calls m g) (hears m gs) (heard_calls m h))
 
--- So many were taken and heard.
+-- The member `m` took `n` sync Interests out of its inbox and heard them, and no other call was made.
 abbrev pub Hears : ℕ → ℕ → Progress → Progress → Type 0
 Hears m n old new = (hs : List Heard) × (length hs ≡ n) × Makes (hears m hs) old new
 
@@ -216,7 +216,7 @@ rounds_snoc members m (q ∷ qs) r =
     ap (λ cs. round_calls members m q ++ cs) (rounds_snoc members m qs r)
     ∙ sym (append_assoc (round_calls members m q) (rounds_calls members m qs) (round_calls members m r))
 
--- These publications were made, and no other call.
+-- The member `m` made rounds, and no other call was made.
 abbrev pub Rounds : ℕ → Progress → Progress → Type 0
 Rounds m old new =
     (rs : List Round) × AllByRecursion (λ (r : Round). length r.heard ≤ heard_at_once) rs
@@ -247,23 +247,23 @@ module _ (m : ℕ) (a b c : Progress) (before : Rounds m a b) where
     both_made a b c (rounds_calls a.members m before.0) (last_calls m) before.2 last,
   )
 
--- ---- what goes to all others
+-- ---- a sync Interest to all others
 
 module _ (m n : ℕ) (t : List ℕ) (a b c : Progress) (before : Makes (tells n m t) a b) where
-  -- the next other
+  -- one more member `n` gets the sync Interest, where it isn't the member `m` itself
   pub one_received : n ≢ m → Makes (Tell n t ∷ []) b c → Makes (tells (n + 1) m t) a c
   one_received other told =
       rw add-one (subst (λ (own : Bool). Makes (tells n m t ++ (if own then [] else Tell n t ∷ [])) a c)
       (sym (ne_eqb n m other))
       (both_made a b c (tells n m t) (Tell n t ∷ []) before told))
 
-  -- the member itself
+  -- the member `m` itself gets none
   pub itself_passed : n ≡ m → Makes (tells (n + 1) m t) a b
   itself_passed own =
       rw add-one (subst (λ (its : Bool). Makes (tells n m t ++ (if its then [] else Tell n t ∷ [])) a b)
       (sym (eq-eqb n m own)) (subst (λ cs. Makes cs a b) (sym (append-nil (tells n m t))) before))
 
--- ---- tickets of who publishes
+-- ---- tickets of an actor that publishes
 
 reports_free : (n m : ℕ) (t : List ℕ) → sum_by spends (tells n m t) ≡ 0
 reports_free zero m t = refl
@@ -315,11 +315,11 @@ rounds_free members m (r ∷ rs) =
       sum_by-append spends (round_calls members m r) (rounds_calls members m rs),
     )
 
--- Publications take no ticket.
+-- Rounds take no ticket.
 pub rounds_left : (m : ℕ) (a b : Progress) → Rounds m a b → b.left ≡ a.left
 rounds_left m a b is = let spent = is.2.3 in omega (arith, spent, rounds_free a.members m is.0)
 
--- Who publishes takes one ticket, at the end.
+-- An actor that publishes takes one ticket, at the end.
 pub last_left : (m : ℕ) (a b : Progress) → Publishes m a b → b.left + 1 ≡ a.left
 last_left m a b is =
     let spent = is.2.3 in

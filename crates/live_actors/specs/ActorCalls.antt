@@ -1,4 +1,4 @@
--- What the actors of a live group do, as the list of their calls: a function of what they were answered.
+-- What the actors of a live group do, as the list of their calls: a function of the answers to these.
 use Rattle.std.specs.Prelude.{ℕ, zero, suc, ◌≡◌, ◌≤◌, ◌<◌, ◌==◌, Bool, true, false, Option, Some, None, ⊤}
 use Rattle.std.specs.Prelude.{List, [], ◌∷◌, ◌++◌, ◌+◌, length, sum_by, if◌then◌else◌, nat_lt}
 use Rattle.std.specs.List.{AllByRecursion}
@@ -21,7 +21,7 @@ pub data Call : Type 0 where
   Accept : (member f : ℕ) (lent : Loan) (ended : LiveReply) → Call
   Lose : (member f : ℕ) (ended : LiveReply) → Call
 
--- How many members there are, into the inboxes of how many of them the actor may put, the calls that it made so far,
+-- How many members there are, how many inboxes the actor may put sync Interests into, the calls that it made so far,
 -- and how many tickets it has left.
 pub record Progress : Type 0 where
   pub members : ℕ
@@ -29,31 +29,33 @@ pub record Progress : Type 0 where
   pub calls : List Call
   pub left : ℕ
 
--- The call that finds nothing to publish takes a ticket.
+-- The tickets that a publish call takes: 1 where nothing was published, else 0.
 abbrev pub last_look : Option (List ℕ) → ℕ
 last_look None = 1
 last_look (Some told) = 0
 
--- So does each claim, whatever is replied.
+-- The tickets that a call takes: 1 for a claim, whatever is replied, and for a publish call where nothing was
+-- published.
 abbrev pub spends : Call → ℕ
 spends (Claim member f claimed) = 1
 spends (Publish member told) = last_look told
 spends _ = 0
 
--- These calls were made, in this order, and no others.
+-- These calls were made, in this order, and no others, and their tickets were taken.
 abbrev pub Makes : List Call → Progress → Progress → Type 0
 Makes calls old new =
     (new.members ≡ old.members) × (new.senders ≡ old.senders) × (new.calls ≡ old.calls ++ calls)
     × (new.left + sum_by spends calls ≡ old.left)
 
--- A part that was claimed is of one of so many members.
+-- If the reply is a part that was claimed, its publisher's number is below `members`, the number of members.
 abbrev pub IsOfMember : ℕ → LiveReply → Type 0
 IsOfMember members (reply.Claimed part) = part.publisher < members
 IsOfMember members _ = ⊤
 
 -- ---- a fetcher
 
--- What a fetcher was answered in one turn: to its claim, what was lent for it, and to the accept or the lose.
+-- The answers to a fetcher in one turn: the reply to its claim, what was lent for it, and the reply to the accept or
+-- the lose.
 pub record Turn : Type 0 where
   pub claimed : LiveReply
   pub lent : Option Loan
@@ -64,7 +66,7 @@ abbrev pub ends : ℕ → ℕ → Option Loan → LiveReply → Call
 ends member f (Some lent) ended = Accept member f lent ended
 ends member f None ended = Lose member f ended
 
--- The gate comes before it.
+-- The calls that end a claim: the gate, and then the accept or the lose.
 abbrev pub end_calls : ℕ → ℕ → Option Loan → LiveReply → List Call
 end_calls member f lent ended = Pass member f ∷ ends member f lent ended ∷ []
 
@@ -72,13 +74,14 @@ end_calls member f lent ended = Pass member f ∷ ends member f lent ended ∷ [
 abbrev pub EndsClaim : ℕ → ℕ → Option Loan → Progress → Progress → Type 0
 EndsClaim member f lent old new = (ended : LiveReply) × Makes (end_calls member f lent ended) old new
 
--- What follows a claim. Where a part was claimed, its publisher lends, after the gate, and the claim ends.
+-- The calls after a claim. Where a part was claimed: the gate, its publisher lends, and the calls that end the claim.
+-- Where none was: no calls.
 abbrev pub fetches : ℕ → ℕ → LiveReply → Option Loan → LiveReply → List Call
 fetches member f (reply.Claimed part) lent ended =
     Pass member f ∷ Lend part.publisher part lent ∷ end_calls member f lent ended
 fetches member f _ lent ended = []
 
--- A turn: the gate, a claim, and what follows it.
+-- The calls of a turn: the gate, a claim, and the calls after it.
 abbrev pub turn_calls : ℕ → ℕ → Turn → List Call
 turn_calls member f turn =
     Pass member f ∷ Claim member f turn.claimed ∷ fetches member f turn.claimed turn.lent turn.ended
@@ -92,21 +95,22 @@ fetcher_calls member f (turn ∷ turns) = turn_calls member f turn ++ fetcher_ca
 abbrev pub TakesTurn : ℕ → ℕ → Progress → Progress → Type 0
 TakesTurn member f old new = (turn : Turn) × Makes (turn_calls member f turn) old new
 
--- So many turns, and no other call.
+-- The fetcher `f` took `n` turns, and no other call was made.
 abbrev pub Fetches : ℕ → ℕ → ℕ → Progress → Progress → Type 0
 Fetches member f n old new =
     (turns : List Turn) × (length turns ≡ n) × Makes (fetcher_calls member f turns) old new
 
 -- ---- the actor that publishes
 
--- The actor of one of so many members can publish: it may put into the inbox of each, and has a ticket left.
+-- The actor that publishes for the member `number`, in a group of `count` members, can do so: it may put sync Interests
+-- into the inboxes of all members, and has a ticket left.
 pub record CanPublish (count number : ℕ) (progress : Progress) : Type 0 where
   pub members : count ≡ progress.members
   pub senders : count ≡ progress.senders
   pub member : number < count
   pub ticket : 0 < progress.left
 
--- A sync Interest goes to all members below n but this one, in order.
+-- The sync Interest `told` is put into the inboxes of all members below a number, except `member`, in order.
 abbrev pub tells : ℕ → ℕ → List ℕ → List Call
 tells zero member told = []
 tells (suc n) member told = tells n member told ++ (if n == member then [] else Tell n told ∷ [])
@@ -116,7 +120,7 @@ pub record Heard : Type 0 where
   pub told : List ℕ
   pub replied : LiveReply
 
--- These were taken out of the inbox, and each was heard after the gate.
+-- Sync Interests were taken out of the inbox, one by one, and each was heard after the gate.
 abbrev pub hears : ℕ → List Heard → List Call
 hears member [] = []
 hears member (heard ∷ later) =
@@ -126,12 +130,12 @@ hears member (heard ∷ later) =
 abbrev pub heard_at_once : ℕ
 heard_at_once = 64
 
--- Where fewer were there, a last look found nothing.
+-- The sync Interests were taken and heard. Where they are fewer than 64, one more take found none.
 abbrev pub hears_some : ℕ → List Heard → List Call
 hears_some member heard =
     hears member heard ++ (if nat_lt (length heard) heard_at_once then Take None ∷ [] else [])
 
--- Sync Interests were heard, as many as are heard at once, and no other call made.
+-- At most 64 sync Interests were taken and heard, and no other call was made.
 abbrev pub HearsSome : ℕ → Progress → Progress → Type 0
 HearsSome member old new =
     (heard : List Heard) × (length heard ≤ heard_at_once) × Makes (hears_some member heard) old new
@@ -141,28 +145,30 @@ pub record Round : Type 0 where
   pub told : List ℕ
   pub heard : List Heard
 
--- The gate, the publication, its sync Interest to all others, and what is heard.
+-- The calls of a round: the gate, the publication, its sync Interest into the inboxes of all others, and the calls by
+-- which the member hears.
 abbrev pub round_calls : ℕ → ℕ → Round → List Call
 round_calls members member round =
     (Pass member 0 ∷ Publish member (Some round.told) ∷ tells members member round.told)
     ++ hears_some member round.heard
 
--- The calls of these publications, in order.
+-- The calls of these rounds, in order.
 abbrev pub rounds_calls : ℕ → ℕ → List Round → List Call
 rounds_calls members member [] = []
 rounds_calls members member (round ∷ later) = round_calls members member round ++ rounds_calls members member later
 
--- Nothing was to come.
+-- The last calls of an actor that publishes: the gate, and a publish call where nothing was published.
 abbrev pub last_calls : ℕ → List Call
 last_calls member = Pass member 0 ∷ Publish member None ∷ []
 
--- The next publication, or none.
+-- The calls of a publishing actor for its next object: those of a round where one was published (`true`), else the last
+-- calls.
 abbrev pub PublishesNext : ℕ → Bool → Progress → Progress → Type 0
 PublishesNext member true old new =
     (round : Round) × (length round.heard ≤ heard_at_once) × Makes (round_calls old.members member round) old new
 PublishesNext member false old new = Makes (last_calls member) old new
 
--- Publications one after the other until nothing is to come, and no other call.
+-- The actor made rounds one after the other, then the last calls, and no other call.
 abbrev pub Publishes : ℕ → Progress → Progress → Type 0
 Publishes member old new =
     (rounds : List Round) × AllByRecursion (λ (r : Round). length r.heard ≤ heard_at_once) rounds
@@ -170,19 +176,20 @@ Publishes member old new =
 
 -- ---- any actor
 
--- The actor's member is there, and who publishes may put into the inbox of each.
+-- The actor's member is one of the group. An actor that publishes may put sync Interests into the inboxes of all
+-- members.
 abbrev pub IsActorIn : Progress → Actor → Type 0
 IsActorIn progress (actor.Publish member) = (member < progress.members) × (progress.senders ≡ progress.members)
 IsActorIn progress (actor.First member) = member < progress.members
 IsActorIn progress (actor.Second member) = member < progress.members
 
--- All that an actor does.
+-- All calls of an actor were made: its publications, or `turns` turns as fetcher 1 or 2.
 abbrev pub Acts : ℕ → Actor → Progress → Progress → Type 0
 Acts turns (actor.Publish member) old new = Publishes member old new
 Acts turns (actor.First member) old new = Fetches member 1 turns old new
 Acts turns (actor.Second member) old new = Fetches member 2 turns old new
 
--- A ticket for each claim, or one for the call that finds nothing to publish.
+-- The tickets of an actor: one for the publish call where nothing is published, or one for the claim of each turn.
 abbrev pub tickets_of : Actor → ℕ → ℕ
 tickets_of (actor.Publish member) turns = 1
 tickets_of (actor.First member) turns = turns

@@ -13,10 +13,10 @@ use std::thread::yield_now;
 /// How many sync Interests a member hears after each publication at most.
 const HEARD_AT_ONCE: u32 = 64;
 
-/// The number of the actor that publishes. A fetcher's is the fetcher's.
+/// The number of the actor that publishes. An actor that fetches has its fetcher's number.
 const PUBLISHER: u8 = 0;
 
-/// What one thread does.
+/// Makes all calls of one actor.
 pub fn act<L: Lists, R: Wait, P: Places<L>>(
     rt: &R,
     places: &mut P,
@@ -38,8 +38,8 @@ pub fn act<L: Lists, R: Wait, P: Places<L>>(
     Ok(())
 }
 
-/// The first actor of a member publishes until nothing is to come. It puts the sync Interest of each publication into
-/// the inboxes of all others, and after it the member hears what was put into its own.
+/// The actor that publishes for a member does so until `publish_next` answers `None`. It puts the sync Interest of each
+/// publication into the inboxes of all other members. After each, the member hears sync Interests from its own inbox.
 pub fn publish<L: Lists, R: Wait, P: Places<L>>(
     rt: &R,
     places: &mut P,
@@ -57,8 +57,8 @@ pub fn publish<L: Lists, R: Wait, P: Places<L>>(
     unreachable!()
 }
 
-// A member publishes its next object, all others get its sync Interest, and it hears what came. The answer is whether
-// there was an object.
+// A member publishes its next object, the sync Interest is put into the inboxes of all others, and the member hears
+// sync Interests from its own inbox. The answer is whether an object was published.
 fn publish_next<L: Lists, P: Places<L>>(
     places: &mut P,
     members: u32,
@@ -76,7 +76,7 @@ fn publish_next<L: Lists, P: Places<L>>(
     Ok(true)
 }
 
-// A sync Interest goes into the inboxes of all other members, in order of their numbers.
+// Puts a sync Interest into the inboxes of all other members, in order of their numbers.
 fn tell_others<L: Lists, P: Places<L>>(
     places: &mut P,
     members: u32,
@@ -94,7 +94,7 @@ fn tell_others<L: Lists, P: Places<L>>(
     Ok(())
 }
 
-// A member hears what is in its inbox.
+// A member hears sync Interests from its inbox until it is empty, and at most 64.
 fn hear_some<L: Lists, P: Places<L>>(places: &mut P, member: u32) -> Result<(), AllocError>
     requires { member < (P.progress places.old).members }
     ensures { OnOk result (HearsSome member (P.progress places.old) (P.progress places.new)) }
@@ -109,8 +109,8 @@ fn hear_some<L: Lists, P: Places<L>>(places: &mut P, member: u32) -> Result<(), 
     Ok(())
 }
 
-/// A fetcher makes its turns: each is a claim, and where a part is claimed, what its publisher lends is accepted; where
-/// that lends nothing, the claim is lost.
+/// A fetcher makes `turns` turns. Each begins with a claim. If a part is claimed, its publisher is asked to lend the
+/// packet, and the claim ends with `accept`, or with `lose` if nothing was lent.
 pub fn fetch<L: Lists, P: Places<L>>(
     places: &mut P,
     member: u32,
@@ -129,7 +129,7 @@ pub fn fetch<L: Lists, P: Places<L>>(
     Ok(())
 }
 
-// Where nothing is claimed other threads go on before the next turn.
+// One turn of a fetcher. If no part is claimed, other threads may run before the next turn.
 fn take_turn<L: Lists, P: Places<L>>(places: &mut P, member: u32, f: u8) -> Result<(), AllocError>
     requires member { member < (P.progress places.old).members }
     requires fetcher { IsFetcher f }
@@ -148,7 +148,7 @@ fn take_turn<L: Lists, P: Places<L>>(places: &mut P, member: u32, f: u8) -> Resu
     Ok(())
 }
 
-// A claim ends by what was lent for it, or is lost where nothing was.
+// Ends a claim: with `accept` of what was lent for it, or with `lose` if nothing was.
 fn end_claim<L: Lists, P: Places<L>>(
     places: &mut P,
     member: u32,

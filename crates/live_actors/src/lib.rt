@@ -1,5 +1,5 @@
-//! What the actors of a live group do, as the whole list of their calls: one publishes a member's list and hears, two
-//! fetch.
+//! What the actors of a live group do, as the whole list of their calls. Each member has three actors: one publishes
+//! the member's list and hears, and two fetch.
 //!
 //! What is promised of it: `docs/promises/live_actors.md`.
 #![tactic(auto)]

@@ -2,8 +2,8 @@ use live_member::{Lent, Lists, LiveReply, Told};
 use repo_plan::Part;
 use std::snapshot::Snapshot;
 
-/// A call that an actor makes, with its answer, as an implementation of `Places` notes it for contracts to read. Of
-/// packets there is a `Snapshot`, which takes no bytes.
+/// A call that an actor makes, with its answer, as an implementation of `Places` notes it for contracts to read. A
+/// packet is noted as a `Snapshot`, which takes no bytes.
 #[derive(Drop)]
 pub enum Noted<L: Lists> {
     Pass {

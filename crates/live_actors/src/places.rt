@@ -9,17 +9,18 @@ use std::alloc::AllocError;
 
 /// A live group, as one actor sees it: each method makes one call, and adds it with its answer to the calls so far.
 ///
-/// Each takes at most one lock, and gives it back before it answers. Where memory runs out nothing is said of calls.
+/// Each method takes at most one lock, and releases it before it returns. If memory runs out, nothing is said of calls.
 pub trait Places<L: Lists> {
-    /// How many members there are, to how many of them the actor may report, the calls so far, and the tickets left.
+    /// How many members there are, how many inboxes the actor may put sync Interests into, the calls so far, and how
+    /// many tickets are left.
     ghost progress: { Self → Progress };
 
-    /// The gate of the member's actor.
+    /// Passes the gate as the member's actor of this number.
     fn pass(&mut self, member: u32, actor: u8) -> Result<(), AllocError>
         ensures { OnOk result (Makes (Call.Pass member actor ∷ []) (progress self.old) (progress self.new)) };
 
-    /// The member publishes its next object and gives the sync Interest of it. `None` where nothing is to come, or
-    /// where its journal has no capacity left: this takes a ticket.
+    /// The member publishes its next object and gives the sync Interest of it. `None` if no object is left to publish,
+    /// or if its journal has no capacity left. A call that answers `None` takes a ticket.
     fn publish_next(&mut self, member: u32) -> Result<Option<Told<L>>, AllocError>
         requires member { member < (progress self.old).members }
         requires ticket { 0 < (progress self.old).left }
@@ -30,7 +31,7 @@ pub trait Places<L: Lists> {
         requires { other < (progress self.old).senders }
         ensures { OnOk result (Makes (Call.Tell other told.now ∷ []) (progress self.old) (progress self.new)) };
 
-    /// The first sync Interest in the actor's own inbox.
+    /// Takes the first sync Interest out of the actor's own inbox.
     fn take(&mut self) -> Result<Option<Told<L>>, AllocError>
         ensures { IfOk result (λ r. Makes (Call.Take r ∷ []) (progress self.old) (progress self.new)) };
 
@@ -54,14 +55,14 @@ pub trait Places<L: Lists> {
         requires { publisher < (progress self.old).members }
         ensures { IfOk result (λ r. Makes (Call.Lend publisher part r ∷ []) (progress self.old) (progress self.new)) };
 
-    /// What was lent ends a fetcher's claim.
+    /// A fetcher of the member is given the packet that was lent for its claim.
     fn accept(&mut self, member: u32, f: u8, lent: &Lent<L>) -> Result<LiveReply, AllocError>
         requires member { member < (progress self.old).members }
         requires fetcher { IsFetcher f }
         ensures { IfOk result (λ r.
             Makes (Call.Accept member f lent.now r ∷ []) (progress self.old) (progress self.new)) };
 
-    /// A fetcher's claim ends with nothing.
+    /// A fetcher's claim ends without a packet.
     fn lose(&mut self, member: u32, f: u8) -> Result<LiveReply, AllocError>
         requires member { member < (progress self.old).members }
         requires fetcher { IsFetcher f }

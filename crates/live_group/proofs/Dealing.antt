@@ -19,7 +19,7 @@ inboxes_of_lines ls = map (λ (l : SenderView). l.inbox) ls
 abbrev pub inboxes_of_ears : List ReceiverView → List InboxView
 inboxes_of_ears es = map (λ (e : ReceiverView). e.inbox) es
 
--- so many inboxes are open, each of one capacity and with a port for each member
+-- `n` inboxes are open, each of one capacity and with a port for each member
 pub record AreOpen (members n : ℕ) (opened : List OpenedView) (ears : List ReceiverView) : Type 0 where
   pub width : length opened ≡ n
   pub same : inboxes_of_ears ears ≡ inboxes_of opened
@@ -42,7 +42,7 @@ one_open members n opened ears o e is its capacity ports = record {
   ports = All-push (λ (o : OpenedView). length o.ports ≡ members) opened o is.ports ports;
 }
 
--- so many ports are dealt out of an inbox
+-- `n` ports are dealt out of an inbox
 pub fresh_count : (b : TableId) (all n : ℕ) → length (fresh_ports {T = List ℕ} b all n) ≡ n
 fresh_count b all zero = refl
 fresh_count b all (suc n) =

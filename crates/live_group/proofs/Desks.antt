@@ -86,7 +86,7 @@ module _ (t : Meaning) (turns : ℕ) (old new : Living) (first second look spent
         }
   ]
 
-  -- a publication, where the last look is still to come
+  -- a publication, where the last look is still to be made
   pub next_published : (octets : List ℕ) → IsNext t 900000 old new octets → look ≢ 0
       → IsDesk turns new first second look spent
   next_published octets published still =
@@ -100,7 +100,7 @@ module _ (t : Meaning) (turns : ℕ) (old new : Living) (first second look spent
         published = λ there no_look. absurd (still no_look);
       }
 
-  -- nothing is still to come
+  -- no claim and no look is still to be made
   pub has_ended : (left : ℕ) → left ≡ first + second + look → HasEnded turns old left
   has_ended left sum none room = record {
     first = let had = is.firsts room in omega (arith, had, sum, none);

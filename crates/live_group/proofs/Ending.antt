@@ -63,7 +63,8 @@ module _ (t : Meaning) (turns : ℕ) (lives : List Living) (numbers : List ℕ)
   have_run (Ok rans) all are continued = all_run rans.items (are.numbers ∙ sym all) continued
   have_run (Err want) all are continued = tt
 
--- the member that came out is the one that goes on; or it was made anew, since another's came out
+-- the run goes on with the member that lay under the lock, or with one that was made anew, since another place's lay
+-- there
 module _ (t : Meaning) (turns left : ℕ) (was out : Living) (same : out ≡ was) (live : IsLive t 1000000 out)
     (ended : HasEnded turns was left) (none : left ≡ 0) where
   has_acted : HasRoom out → HasActed turns out

@@ -10,7 +10,7 @@ use Rattle.live_member.proofs.PublicLaws.{width_whole}
 use Rattle.live_settle.specs.Rans.{numbers_below}
 use Rattle.live_group.specs.Seats.{IsSeat}
 
--- so many places are made, of the first lists
+-- the places `seats` are made, of the first lists, and the lists `rest` have no place yet
 pub record IsSeating (t : Meaning) (seats : List ℕ) (rest : List (List NamedContents)) : Type 0 where
   pub numbers : seats ≡ numbers_below (length seats)
   pub prefix : List (List NamedContents)

@@ -12,7 +12,7 @@ numbers_of ls = map (λ (m : Living). m.state.number) ls
 abbrev pub HasLeft : Living → Type 0
 HasLeft m = length m.journal ≤ 900000
 
--- so many are out, and the others are still to come
+-- the members `lives` are taken out, and those of the numbers `rest` are not yet
 pub record AreOut (t : Meaning) (seats : List ℕ) (lives : List Living) (rest : List ℕ) : Type 0 where
   pub numbers : numbers_of lives ++ rest ≡ seats
   pub live : All (IsLive t 1000000) lives

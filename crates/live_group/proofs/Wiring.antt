@@ -27,7 +27,7 @@ below (suc n) =
     (All-cons P (actor.Second n) [] (omega arith) (All-nil P))))
 
 module _ {L : Type 0} where
-  -- the actors of the first `n` members, and what is left for the others
+  -- the actors of the first `n` members, and the inboxes' mouths for the other members
   pub record AreWired (members n : ℕ) (inboxes : List InboxView) (opened : List OpenedView) (jobs : List (Job L))
       (rest : List ReceiverView) : Type 0 where
     pub width : length inboxes ≡ members

@@ -1,4 +1,4 @@
--- What lies under a member's lock, and what has come out of it.
+-- What lies under a member's lock.
 use Rattle.std.specs.Prelude.{ℕ, ◌≡◌, ◌+◌, ◌*◌, ◌<◌, [], length}
 use Rattle.live_member.specs.Lives.{Living}
 use Rattle.live_member.specs.Entries.{claims_by}
@@ -16,28 +16,31 @@ HasBegun l = l.journal ≡ []
 abbrev pub tickets_each : ℕ → ℕ
 tickets_each turns = turns * 2 + 1
 
--- The tokens of a run: they are the ledger's, four parts for each of so many members, and one more.
+-- The tokens of name `tokens` and of `count` parts are those of a run's ledger, of name `named` and of `size` parts:
+-- four for each of `members` members, and one more.
 pub record AreTokens (tokens count named size members : ℕ) : Type 0 where
   pub name : tokens ≡ named
   pub parts : count ≡ size
   pub enough : count ≡ members * 4 + 1
 
--- Under a lock lies a member with so many claims and last looks still to come, and so many tickets spent. As long as
--- its journal has capacity, the claims of each fetcher in it and those to come are its turns; and once there was the
--- last look, nothing is to be published.
+-- Under a lock lies the member `l`. Still to be made are `first` claims of fetcher 1, `second` claims of fetcher 2 and
+-- `look` last looks for a publication, and `spent` tickets were spent. As long as its journal has capacity, the claims
+-- of each fetcher in it and those still to be made are `turns` together; and after the last look nothing is to be
+-- published.
 pub record IsDesk (turns : ℕ) (l : Living) (first second look spent : ℕ) : Type 0 where
   pub tickets : spent + first + second + look ≡ tickets_each turns
   pub firsts : HasRoom l → claims_by 1 l.journal + first ≡ turns
   pub seconds : HasRoom l → claims_by 2 l.journal + second ≡ turns
   pub published : HasRoom l → look ≡ 0 → l.unpublished ≡ []
 
--- All that a member's own actors do was done with it: its journal has so many claims of each of its two fetchers, and
+-- All that a member's own actors do was done with it: its journal has `turns` claims of each of its two fetchers, and
 -- its whole list is published.
 pub record HasActed (turns : ℕ) (l : Living) : Type 0 where
   pub first : claims_by 1 l.journal ≡ turns
   pub second : claims_by 2 l.journal ≡ turns
   pub published : l.unpublished ≡ []
 
--- Where no ticket of a member's actors is left, they have done all of this, as long as the journal had capacity.
+-- Where no ticket of a member's actors is left, all that they do was done with the member, as long as its journal had
+-- capacity.
 abbrev pub HasEnded : ℕ → Living → ℕ → Type 0
 HasEnded turns l left = left ≡ 0 → HasRoom l → HasActed turns l

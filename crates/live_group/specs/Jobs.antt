@@ -9,7 +9,7 @@ use Rattle.live_group.specs.declared.actor_job.Job.{Job}
 use Rattle.live_group.specs.declared.actor_job.Job.TheVariants.{Publish, First, Second}
 use Rattle.live_group.specs.Senders.{HaveCapacity, inbox_capacity}
 
--- Whose actor it is.
+-- The member whose actor it is.
 abbrev pub member_of : Actor → ℕ
 member_of (actor.Publish member) = member
 member_of (actor.First member) = member
@@ -30,34 +30,35 @@ module _ {L : Type 0} where
   IsWired inboxes (First member) = Unit {0}
   IsWired inboxes (Second member) = Unit {0}
 
-  -- The member is one of so many.
+  -- The actor's member has a number below `members`.
   abbrev pub IsActorBelow : ℕ → Job L → Type 0
   IsActorBelow members job = member_of (actor_of job) < members
 
-  -- The first actor has so many lines.
+  -- A member's first actor has `senders` lines.
   abbrev pub HasSenders : ℕ → Job L → Type 0
   HasSenders senders (Publish publisher) = senders ≡ length publisher.senders.items
   HasSenders senders (First member) = Unit {0}
   HasSenders senders (Second member) = Unit {0}
 
-  -- A job can be done over so many seats in a group of so many members. Each member has a seat, and there are at most
-  -- sixteen. The job is that of an actor of one of them. Where it publishes it has a line to each.
+  -- A job can be done with `seats` seats in a group of `count` members. Each member has a seat, and there are at most
+  -- sixteen. The job is that of an actor of one of these members. If it publishes, it has a line to each member.
   pub record CanBeDone (seats count : ℕ) (job : Job L) : Type 0 where
     pub members : seats ≡ count
     pub few : seats ≤ 16
     pub actor : IsActorBelow seats job
     pub senders : HasSenders seats job
 
--- Three actors for each of so many members, in order.
+-- Three actors for each of the members below this number, in order.
 abbrev pub actors_below : ℕ → List Actor
 actors_below zero = []
 actors_below (suc n) = actors_below n ++ actor.Publish n ∷ actor.First n ∷ actor.Second n ∷ []
 
--- The tickets of these actors.
+-- How many tickets these actors have.
 abbrev pub all_tickets : ℕ → List Actor → ℕ
 all_tickets turns actors = sum_by (λ (a : Actor). tickets_of a turns) actors
 
--- All actors of so many members, each once, and the inboxes of the members, each of the same capacity.
+-- The jobs are those of all actors of `members` members, each once, wired to the members' inboxes, each of the same
+-- capacity.
 pub record AreJobs {L : Type 0} (members : ℕ) (jobs : List (Job L)) : Type 0 where
   pub inboxes : List InboxView
   pub width : length inboxes ≡ members

@@ -14,25 +14,26 @@ pub record OutView : Type 0 where
   pub live : Living
   pub left : ℕ
 
--- So many tickets weren't spent in all.
+-- How many tickets weren't spent in all places.
 abbrev pub all_left : List OutView → ℕ
 all_left outs = sum_by (λ (o : OutView). o.left) outs
 
--- This member goes on after the threads. What lay under the lock of its place had all done with it that a member's own
--- actors do, as long as its journal had capacity; and where that was the member of the place, it is this one.
+-- The member `l` with which the run goes on after the threads. All that a member's own actors do was done with what lay
+-- under the lock of its place, as long as that one's journal had capacity; and where that was the member of the place,
+-- it is `l`.
 pub record IsOut (t : Meaning) (turns : ℕ) (l : Living) : Type 0 where
   pub out : Living
   pub live : IsLive t 1000000 out
   pub acted : HasRoom out → HasActed turns out
   pub same : out.state.number ≡ l.state.number → l ≡ out
 
--- A fetcher makes twice as many turns as all lists have parts.
+-- The number of turns of a fetcher: twice the number of parts of all lists.
 abbrev pub turns_of : Meaning → ℕ
 turns_of t = length (all_parts (whole_logs t)) * 2
 
--- What lay under the lock of a member's place after all threads had ended: by its own actors' calls, as long as its
--- journal had capacity. Where it was the member of the place, the journal that comes out of the run begins with its
--- journal, and has so many claims of fetcher 2.
+-- What lay under the lock of a member's place after all threads had ended. All that a member's own actors do was done
+-- with it, as long as its journal had capacity. Where it was the member of the place, the journal of the run's result
+-- begins with its journal, and has `turns` claims of fetcher 2, as long as its journal had capacity.
 pub record HasRun (t : Meaning) (turns : ℕ) (r : Ran) : Type 0 where
   pub out : Living
   pub live : IsLive t 1000000 out

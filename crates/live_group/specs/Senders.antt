@@ -14,24 +14,25 @@ pub record ReceiverView : Type 0 where
   pub inbox : InboxView
   pub mouth : MouthView (List ℕ)
 
--- An inbox, with the ports that nobody has yet.
+-- An inbox, with its ports that nobody has yet.
 pub record OpenedView : Type 0 where
   pub inbox : InboxView
   pub ports : List (PortView (List ℕ))
 
--- The octets went into the inbox, after all others; or it was full at some time during the call, and nothing changed.
+-- The octets were put into the inbox, after all others; or it was full at some time during the call, and nothing
+-- changed.
 abbrev pub Tells : List ℕ → SenderView → SenderView → Type 0
 Tells octets old new =
     (new ≡ record old { port = puts octets old.port }) ⊎ ((new ≡ old) × Held old.inbox.capacity (HeldOf old.port))
 
--- Each of these inboxes has so many ports that nobody has yet.
+-- Each of these inboxes has `n` ports that nobody has yet.
 abbrev pub HavePorts : ℕ → List OpenedView → Type 0
 HavePorts n inboxes = All (λ (o : OpenedView). length o.ports ≡ n) inboxes
 
--- How many sync Interests an inbox holds at most.
+-- The most sync Interests that an inbox holds.
 abbrev pub inbox_capacity : ℕ
 inbox_capacity = 8
 
--- Each of these inboxes holds so many at most.
+-- Each of these inboxes holds at most `n` sync Interests.
 abbrev pub HaveCapacity : ℕ → List InboxView → Type 0
 HaveCapacity n inboxes = All (λ (i : InboxView). i.capacity ≡ n) inboxes

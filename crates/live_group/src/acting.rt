@@ -13,7 +13,8 @@ use std::sync::Wait;
 use std::thread;
 use std::thread::Threads;
 
-/// All actors, each in a thread of its own. Where no thread can be started the caller does the actor's work.
+/// Carries out the jobs of all actors, each in a thread of its own. Where no thread can be started the caller does the
+/// actor's work.
 pub fn act_all<L: Run + Send + Sync, R: Threads + Wait + Sync, G: Gate + Sync>(
     rt: &R,
     alloc: Global,
@@ -41,7 +42,7 @@ pub fn act_all<L: Run + Send + Sync, R: Threads + Wait + Sync, G: Gate + Sync>(
     Ok(done)
 }
 
-// What one thread does.
+// Carries out the job of one actor, in its thread.
 fn act_one<L: Run, R: Wait, G: Gate>(
     rt: &R,
     alloc: Global,

@@ -11,7 +11,7 @@ use repo_object::Object;
 use std::alloc::{AllocError, Global};
 use std::marker::Model;
 
-/// What lay under the lock of a member's place, with the number of tickets that its actors have left.
+/// What lay under the lock of a member's place, with the number of tickets that its actors didn't spend.
 #[derive(Drop)]
 pub struct ClosedPlace<L: Run> {
     number: u32,
@@ -55,8 +55,8 @@ impl<L: Run> ClosedPlace<L> {
         }
     }
 
-    /// The member of the place. What a lock held is known by its type alone, and so the member's number is compared
-    /// with the place's: where it is another's, the member is made anew.
+    /// The member of the place. Of what a lock held only the type is known, and so the member's number is compared with
+    /// that of the place: where it is another, the member is made anew.
     pub fn placed(self, alloc: Global, g: &Group) -> Result<Live<L, 1000000>, AllocError>
         requires group { g.now ≡ L.meaning.group }
         requires none_left { self.left ≡ 0 }

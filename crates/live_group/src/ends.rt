@@ -13,7 +13,7 @@ pub struct Ends<L: Lists> {
 }
 
 impl<L: Lists> Ends<L> {
-    /// The first value that wasn't taken yet, if there is one.
+    /// The first value in the inbox that wasn't taken yet, if there is one.
     pub fn next<R: Wait>(&mut self, rt: &R) -> Option<Told<L>>
         ensures { self.new.senders ≡ self.old.senders }
     {

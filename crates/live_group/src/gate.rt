@@ -1,9 +1,9 @@
-/// What each actor passes before each locked call. Threads share it.
+/// A gate that each actor passes before each locked call. Threads share it.
 pub trait Gate {
     fn at(&self, member: u32, actor: u32);
 }
 
-/// A gate that holds nobody up.
+/// A gate that lets every actor pass at once.
 #[derive(Clone, Copy, Debug, Default)]
 pub struct OpenGate;
 

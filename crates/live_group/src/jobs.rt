@@ -6,7 +6,7 @@ use crate::opened::{all_inboxes, sender_to_each};
 use live_member::Lists;
 use std::alloc::{AllocError, Global};
 
-/// Three actors for each of so many members: one that publishes and hears, and two that fetch.
+/// Three actors for each of `members` members: one that publishes and hears, and two that fetch.
 pub fn all_jobs<L: Lists>(alloc: Global, members: usize) -> Result<Vec<Job<L>>, AllocError>
     requires { members ≤ 16 }
     ensures { IfOk result (λ jobs. AreJobs members jobs.items) }

@@ -11,7 +11,7 @@ use std::alloc::{AllocError, Global};
 use std::sync::ledger::Share;
 
 /// What lies under a member's lock: the member, how many claims of fetchers 1 and 2 and how many last looks for a
-/// publication are still to come, and the tickets that these spent.
+/// publication are still to be made, and the tickets that were spent.
 #[derive(Drop)]
 pub struct LockedMember<L: Run> {
     live: Live<L, 900000>,
@@ -39,8 +39,8 @@ impl<L: Run> LockedMember<L> {
         }
     }
 
-    /// The member publishes its next object. `None` where nothing is left, or where the journal is full: this
-    /// spends a ticket. Who publishes looks once in vain, so no run asks for a second such look.
+    /// The member publishes its next object. `None` where its whole list is published, or where the journal is full:
+    /// this spends a ticket. An actor that publishes looks once in vain, so no run asks for a second such look.
     pub fn publish_next(
         &mut self,
         g: &Group,
@@ -131,7 +131,7 @@ impl<L: Run> LockedMember<L> {
         live.lose(g, f)
     }
 
-    /// The member, how many tickets of its actors are left, and those that were spent.
+    /// The member, the number of tickets that its actors didn't spend, and those that they spent.
     pub fn into_parts(self) -> (Live<L, 900000>, u64, Share<L>)
         ensures parts { result.2.parts ≡ 1 }
         ensures amount { result.2.amount + result.1 ≡ tickets_each L.turns }

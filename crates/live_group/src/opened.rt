@@ -8,10 +8,10 @@ use std::alloc::{AllocError, Global};
 use std::marker::Model;
 use std::sync::Arc;
 
-/// How many sync Interests an inbox holds.
+/// The most sync Interests that an inbox holds.
 const INBOX_CAPACITY: usize = 8;
 
-/// A member's inbox, with the ports that nobody has yet.
+/// A member's inbox, with its ports that nobody has yet.
 #[derive(Drop)]
 pub struct Opened<L: Lists> {
     inbox: Shared<L>,
@@ -32,7 +32,7 @@ impl<L: Lists> Model for Opened<L> {
 }
 
 impl<L: Lists> Opened<L> {
-    // An inbox for one member, with a port for each.
+    // An inbox for one member, with a port for each member.
     fn new(alloc: Global, members: usize) -> Result<(Opened<L>, Receiver<L>), AllocError>
         requires some { 1 ≤ members }
         requires few { members ≤ 16 }
@@ -61,7 +61,7 @@ impl<L: Lists> Opened<L> {
     }
 }
 
-/// An inbox for each of so many members, each with a port for each member.
+/// An inbox for each of `members` members, each with a port for each member.
 pub fn all_inboxes<L: Lists>(
     alloc: Global,
     members: usize,

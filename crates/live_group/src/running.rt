@@ -23,7 +23,7 @@ use std::sync::ledger::{Blank, Share};
 use std::thread::Threads;
 
 /// Runs a group in threads: each member publishes its list, informs the others, hears them, and fetches what it wants,
-/// all at once. Then what is left is published, and a settle is made.
+/// all at once. Then the rest of each list is published, and a settle is made.
 ///
 /// There is one list and one draw for each member of the group, in order of their numbers. Each member's journal
 /// replays to it, and its catalogue is the join of all lists.
@@ -114,7 +114,7 @@ fn all_seats<L: Run>(
     Ok(seats)
 }
 
-// What lay under the locks.
+// What lay under the lock of each place.
 fn all_out<L: Run>(
     alloc: Global,
     seats: Vec<Seat<L>>,

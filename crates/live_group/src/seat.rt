@@ -22,7 +22,7 @@ pub struct Seat<L: Run> {
     lock: Mutex<LockedMember<L>>,
 }
 
-// A place is seen as its number. No contract can say what stands under the lock.
+// A place is seen as its number. No contract can say what lies under the lock.
 impl<L: Run> Model for Seat<L> {
     ghost use Rattle.std.specs.Prelude.{ℕ};
     ghost use Rattle.live_group.specs.Seats.{IsSeat};
@@ -67,7 +67,8 @@ impl<L: Run> Seat<L> {
         &self.lock
     }
 
-    /// What lay under the lock. The tickets that were spent on it come back, and those that weren't are what is left.
+    /// What lay under the lock. The tickets that were spent on it are given back to `all`, and the number of the others
+    /// is in the result.
     pub fn out(self, all: &mut Share<L>) -> ClosedPlace<L>
         ensures number { result.number ≡ self }
         ensures parts { all.new.parts ≡ all.old.parts + 1 }

@@ -10,7 +10,7 @@ use std::alloc::Global;
 use std::marker::Model;
 use std::sync::{Arc, Wait};
 
-/// A member's inbox, which all that put into it share.
+/// A member's inbox. All that put values into it share it.
 pub type Shared<L> = Arc<Inbox<Told<L>>, Global>;
 
 /// An inbox of a member, with a port of it.
@@ -40,7 +40,7 @@ impl<L: Lists> Sender<L> {
         Sender { inbox, port }
     }
 
-    /// Tells the member. Where its inbox is full it isn't informed.
+    /// Puts the value into the member's inbox. Where the inbox is full the member isn't informed.
     pub fn tell<R: Wait>(&mut self, rt: &R, told: Told<L>)
         ensures { Tells told self.old self.new }
     {
@@ -75,7 +75,7 @@ impl<L: Lists> Receiver<L> {
         Receiver { inbox, mouth }
     }
 
-    /// The first value that wasn't taken yet, if there is one.
+    /// The first value in the inbox that wasn't taken yet, if there is one.
     pub fn next<R: Wait>(&mut self, rt: &R) -> Option<Told<L>>
         ensures inbox { self.new.inbox ≡ self.old.inbox }
         ensures told { IfSome result (λ told. HasTaken self.old.mouth told self.new.mouth) }

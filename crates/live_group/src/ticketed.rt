@@ -33,7 +33,7 @@ impl<L: Run> TicketedActor<L> {
     }
 }
 
-/// What an actor returns: it has no ticket left.
+/// What an actor returns: its share, in which no ticket is left.
 #[derive(Drop)]
 pub struct Done<L: Run> {
     pub tickets: Share<L>,
@@ -71,7 +71,7 @@ pub fn all_ticketed<L: Run>(
     Ok(ticketed)
 }
 
-// How many tickets an actor is given.
+// The number of tickets of an actor.
 fn ticket_count(actor: Actor, turns: u32) -> u64
     ensures { result ≡ tickets_of actor turns }
 {
@@ -81,7 +81,7 @@ fn ticket_count(actor: Actor, turns: u32) -> u64
     }
 }
 
-/// The tickets of these actors come back, and none is left.
+/// The shares of these actors are given back to `all`. No ticket is left in them.
 pub fn give_back<L: Run>(all: &mut Share<L>, done: Vec<Done<L>>)
     ensures parts { all.new.parts ≡ all.old.parts + vec_len done }
     ensures amount { all.new.amount ≡ all.old.amount }

@@ -1,4 +1,4 @@
--- A packet that comes keeps what holds under the lock.
+-- A packet that a fetcher is given keeps what holds under the lock.
 use Rattle.std.proofs.Common.{◌≡◌, ℕ, ◌-◌, Bool, true, false, cond, List, Option, Some, None, Ok, refl, ap, sym, ◌∙◌}
 use Rattle.std.proofs.Common.{subst, arith, ◌&&◌, ◌==◌}
 use Rattle.std.specs.Prelude.{if◌then◌else◌}
@@ -61,7 +61,7 @@ module _ (t : Meaning) (most : ℕ) (a : MemberState) (journal : List LiveEntry)
   member_is : IsMemberOf w a.number a
   member_is = is_member t a live.logs live.consistent
 
-  -- a claimed part is one of what was published, and so the packet is its
+  -- a claimed part is one of a publication, and `octets` are its packet
   claimed_packet : claim ≡ Some part → published_packet t.group (logs_at t a.number a.log) part ≡ Some octets
   claimed_packet is =
       let ls = logs_at t a.number a.log in

@@ -137,14 +137,15 @@ module _ (t : Meaning) (j : ℕ) (log : List Post) (unpublished : List NamedCont
   wide : length (logs_at t j log) ≡ length (whole_logs t)
   wide = length-set (whole_logs t) j log
 
-  -- a vector that reports what was published says of the lists
+  -- a vector that reports nothing that isn't published reports nothing that isn't in the lists
   pub vector_whole : (v : List ℕ) → IsConsistentVector (logs_at t j log) v → IsConsistentVector (whole_logs t) v
   vector_whole v is = record {
     width = is.width ∙ wide;
     no_more = λ p. let most = at_most_whole p in omega (arith, most, is.no_more p);
   }
 
-  -- and the other way round, unless it reports more of the member than that has published
+  -- a vector that reports nothing that isn't in the lists, and no more of the member `j` than it has published,
+  -- reports nothing that isn't published
   pub vector_here : (v : List ℕ) → IsConsistentVector (whole_logs t) v → get_or v j 0 ≤ length log
       → IsConsistentVector (logs_at t j log) v
   vector_here v is few = record {

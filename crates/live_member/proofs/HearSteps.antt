@@ -42,7 +42,7 @@ one_draw told known draw k None = go (covers told known) where
   go false = omega arith
 one_draw told known draw k (Some v) = omega arith
 
--- what the verdict is on a vector, by whether it reports more of the member than that has published
+-- the verdict on `vector`, by whether it reports more publications of the member than the member has made (`ahead`)
 abbrev verdict_by : Bool → MemberState → List ℕ → Result (List ℕ) HearRefusal
 verdict_by ahead a vector = cond ahead (Err (OwnNumberAhead (length a.log) (slice_index vector a.number))) (Ok vector)
 
@@ -75,7 +75,7 @@ module _ (t : Meaning) (most : ℕ) (a : MemberState) (journal : List LiveEntry)
       → exceeds_log w a.number sync ≡ b
   too_much b is = ap (λ (m : Member). nat_lt (length m.log) (slice_index tell.vector a.number)) member_is.same ∙ is
 
-  -- the member afterwards, where octets are read so
+  -- the member after the sync Interest, by whether its vector reports more publications than the member has made
   read : (b : Bool) → nat_lt (length a.log) (slice_index tell.vector a.number) ≡ b
       → after t a.number (in_group a) (event.Hear octets) ≡ in_group (hear_change (verdict_by b a tell.vector) draw a)
   read b is =
@@ -134,7 +134,7 @@ module _ (t : Meaning) (most : ℕ) (a : MemberState) (journal : List LiveEntry)
   abbrev ahead : Bool
   ahead = nat_lt (length a.log) (slice_index tell.vector a.number)
 
-  -- what is heard, by the verdict on it
+  -- the reply and the member after the sync Interest, by the verdict on it
   pub hear_after : IsAfter t (event.Hear octets) (hear_reply (hear_verdict t.group a octets) draw a) a
       (hear_change (hear_verdict t.group a octets) draw a)
   hear_after =

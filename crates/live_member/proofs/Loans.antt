@@ -1,4 +1,4 @@
--- What a member tells and lends.
+-- What a member announces and lends.
 use Rattle.std.proofs.Common.{◌≡◌, inl, inr, ℕ, ◌-◌, ◌<◌, ◌≤◌, Bool, true, false, List, length, get_or, Option}
 use Rattle.std.proofs.Common.{Some, None, is_some, refl, ap, sym, ◌∙◌, subst, arith, ◌==◌}
 use Rattle.std.specs.Prelude.{slice_get, if◌then◌else◌}
@@ -33,7 +33,7 @@ module _ (t : Meaning) (most : ℕ) (a : MemberState) (journal : List LiveEntry)
   there : a.number < length t.lists
   there = number_there t a live.logs live.consistent
 
-  -- what a member tells is of the lists
+  -- the sync Interest with a member's vector reports no publication that isn't in the lists
   pub tells : IsReport t (sync_of t.group a.number a.known)
   tells = record {
     sender = a.number;
@@ -149,7 +149,7 @@ module _ (t : Meaning) (most : ℕ) (a : MemberState) (journal : List LiveEntry)
           logs_those t.group ls a part live.consistent own (held_published part (stored_held part octets h))
           ∙ live.consistent.packets part octets h)
 
-  -- what isn't its own it has not logged
+  -- a part of another publisher has no packet by the member's log
   pub not_logged : (part : Part) → (part.publisher == a.number) ≡ false → logged t.group a part ≡ None
   not_logged part other =
       ap (λ (b : Bool). if b then (if part.seq == 0 then None

@@ -50,7 +50,7 @@ module _ (t : Meaning) (most : ℕ) (a : MemberState) (journal : List LiveEntry)
   whole : get_or (whole_logs t) a.number [] ≡ a.log ++ Offers object ∷ as_posts rest
   whole = whole_at t a.number a.log (object ∷ rest) live.list there
 
-  -- the next object of the list is the first that is still to come
+  -- the next object of the list is the first unpublished one
   next_is : next_object t a.number (in_group a) ≡ object
   next_is =
       ap (λ (p : Post). unwrap_or (offered p) no_object)
@@ -114,7 +114,7 @@ module _ (t : Meaning) (most : ℕ) (a : MemberState) (journal : List LiveEntry)
         room = omega (arith, less, long);
       }
 
--- what the first object that is still to come makes of a member
+-- `object` is the first unpublished object, `rest` are the others, and `draw` is the one value of the member's draws
 pub record IsFirst (t : Meaning) (most : ℕ) (a : MemberState) (journal : List LiveEntry)
     (unpublished : List NamedContents)
     (object : NamedContents) (rest : List NamedContents) (draw : ℕ) : Type 0 where

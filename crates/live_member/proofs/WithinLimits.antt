@@ -56,7 +56,7 @@ parts_of_all p (os ∷ lists) =
     let b : sum_by counted (os ∷ lists) ≡ counted os + sum_by counted lists = sum_by-cons counted os lists in
     omega (arith, a, b, parts_of_one p 1 os, parts_of_all (p + 1) lists)
 
--- There are as many parts as the objects have together.
+-- The number of all parts is the sum of the parts of each object.
 pub parts_are_counted : (lists : List (List NamedContents))
     → length (all_parts (map as_posts lists)) ≡ sum_by counted lists
 parts_are_counted lists =

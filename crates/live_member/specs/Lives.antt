@@ -22,27 +22,27 @@ pub record Living : Type 0 where
 abbrev pub living : MemberState → List LiveEntry → List NamedContents → Living
 living state journal unpublished = record { state = state; journal = journal; unpublished = unpublished }
 
--- A member that has just begun.
+-- The initial state of the member `j`.
 abbrev pub initial_live_member : Meaning → ℕ → MemberState
 initial_live_member t j = initial_member (length t.lists) j 0 (slice_index t.draws j)
 
--- A journal, from the beginning of the member on, replays to it.
+-- The journal, replayed from the initial state of the member `a`, gives the replies that it has and ends in `a`.
 abbrev pub ReplaysTo : Meaning → List LiveEntry → MemberState → Type 0
 ReplaysTo t journal a = Replays t a.number journal (in_group (initial_live_member t a.number)) (in_group a)
 
--- A packet that came, taken or refused, is of a part of a publication of the lists.
+-- If the event gives a fetcher a packet, taken or refused, this is of a part of a publication of the lists.
 abbrev pub IsOfPublishedPart : Meaning → LiveEvent → Type 0
 IsOfPublishedPart t (event.Accept f part) = IsPublishedPart (whole_logs t) part
 IsOfPublishedPart t _ = ⊤
 
--- So it is of each entry of a journal.
+-- Each packet that a fetcher was given in an entry of the journal is of a part of a publication of the lists.
 abbrev pub AreOfPublishedParts : Meaning → List LiveEntry → Type 0
 AreOfPublishedParts t journal = All (λ e. IsOfPublishedPart t e.event) journal
 
 -- The group is within its limits. The journal replays to the member, and each packet in it is of a part of the lists.
--- What the member published, followed by what is still to come, is its list. It is as each in a sound group in which
--- the others have published their whole lists, each packet that it stores is that of its part, and nothing is deleted.
--- It used no more draws than it has entries, not counting the first, and no more entries than there is capacity for.
+-- The member's log, followed by its unpublished objects, is its list. In a group whose other members have published
+-- their whole lists, the logs are such as a group can have, and the member is consistent with them. It has deleted
+-- nothing. It has used at most one draw more than its journal has entries, and these are at most `most`.
 pub record IsLive (t : Meaning) (most : ℕ) (l : Living) : Type 0 where
   pub within : IsWithinLimits t
   pub replays : ReplaysTo t l.journal l.state
@@ -54,7 +54,7 @@ pub record IsLive (t : Meaning) (most : ℕ) (l : Living) : Type 0 where
   pub draws : l.state.machine.draws ≤ length l.journal + 1
   pub room : length l.journal ≤ most
 
--- The same with the number and the draw that are kept beside the member.
+-- `IsLive` holds, `number` is the member's number, and `draw` is the one value of its draws.
 pub record IsKept (t : Meaning) (most number draw : ℕ) (l : Living) : Type 0 where
   pub its_number : number ≡ l.state.number
   pub its_draw : draw ≡ slice_index t.draws number

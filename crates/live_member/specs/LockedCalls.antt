@@ -19,27 +19,29 @@ use Rattle.live_member.specs.Lives.{Living, IsLive}
 abbrev pub entry : LiveEvent → LiveReply → LiveEntry
 entry e r = record { event = e; reply = r }
 
--- The event happens to the member, as to one of the group, and is the one entry more, with its reply.
+-- The event `e` happens to the member, as one of its group, and `r` is the reply. The member keeps its number, and its
+-- journal gains one entry, `e` with `r`.
 pub record IsEntered (t : Meaning) (e : LiveEvent) (old new : Living) (r : LiveReply) : Type 0 where
   pub replied : r ≡ reply_of t old.state.number (in_group old.state) e
   pub changed : in_group new.state ≡ after t old.state.number (in_group old.state) e
   pub number : new.state.number ≡ old.state.number
   pub entered : new.journal ≡ old.journal ++ entry e r ∷ []
 
--- So it is where there is capacity. Where there is none the answer is Full, and nothing changes.
+-- A call with the event `e` and the reply `r`. If the journal has fewer than `most` entries, the event is entered and
+-- the unpublished objects stay. Otherwise the reply is Full and nothing changes. `IsLive` holds of `new`.
 abbrev pub StepsBy : Meaning → ℕ → LiveEvent → Living → Living → LiveReply → Type 0
 StepsBy t most e old new r =
     (most ≤ length old.journal → (r ≡ reply.Full) × (new ≡ old))
     × (length old.journal < most → IsEntered t e old new r × (new.unpublished ≡ old.unpublished))
     × IsLive t most new
 
--- Running out of memory changes nothing.
+-- The result of a call with the event `e`: a reply, as `StepsBy` says, or memory ran out, and nothing changed.
 abbrev pub Steps : {A : Type 0} → Meaning → ℕ → LiveEvent → Living → Living → Result LiveReply A → Type 0
 Steps t most e old new (Ok r) = StepsBy t most e old new r
 Steps t most e old new (Err want) = new ≡ old
 
--- The first object that is still to come is published, with an entry, and its sync Interest is that of the vector
--- afterwards.
+-- The journal isn't full. The first unpublished object is published and entered in the journal, and `octets` are the
+-- sync Interest with the member's vector afterwards. `IsLive` holds of `new`.
 pub record IsNext (t : Meaning) (most : ℕ) (old new : Living) (octets : List ℕ) : Type 0 where
   pub room : length old.journal < most
   pub object : NamedContents
@@ -50,7 +52,8 @@ pub record IsNext (t : Meaning) (most : ℕ) (old new : Living) (octets : List �
   pub told : octets ≡ sync_of t.group new.state.number new.state.known
   pub live : IsLive t most new
 
--- Nothing is to come; else there is no capacity; else the next object is published.
+-- The result of `publish_next`: Done where no object is unpublished, and Full where one is and the journal has `most`
+-- entries. Else the next object is published, or memory runs out. Only a publication changes anything.
 abbrev pub Publishes : {A L : Type 0} → Meaning → ℕ → Living → Living → Result (NextTold L) A → Type 0
 Publishes t most old new (Ok (next.Told octets)) = IsNext t most old new octets
 Publishes t most old new (Ok next.Done) = (old.unpublished ≡ []) × (new ≡ old)

@@ -10,7 +10,7 @@ use Rattle.group_model.specs.Events.Response.{Nothing}
 use Rattle.group_model.specs.Member.{Member}
 use Rattle.group_model.specs.World.{World, Environment, no_member}
 
--- The group, the objects that each member is to publish, in order, and the one value of every draw of each member.
+-- The group, and for each member the objects that it is to publish, in order, and the one value of all its draws.
 pub record Meaning : Type 0 where
   pub group : GroupKeys
   pub lists : List (List NamedContents)
@@ -42,11 +42,11 @@ whole_logs t = map as_posts t.lists
 
 -- ---- limits
 
--- How many objects the lists have at most, and how many parts these have at most.
+-- How many objects all lists together have at most.
 abbrev pub object_limit : ℕ
 object_limit = 200
 
--- How many parts the objects of all lists have at most.
+-- How many parts the objects of all lists together have at most.
 abbrev pub part_limit : ℕ
 part_limit = 4000
 
@@ -54,7 +54,7 @@ part_limit = 4000
 abbrev pub part_count : NamedContents → ℕ
 part_count object = last_part (shape_of_segments (length object.contents)) + 1
 
--- What the members are to publish can be published, and isn't too much.
+-- The members of the group can publish their whole lists, which together have at most 200 objects and 4,000 parts.
 pub record IsWithinLimits (t : Meaning) : Type 0 where
   pub logs : AreLogs t.group (whole_logs t)
   pub objects : sum_by length t.lists ≤ object_limit
@@ -62,11 +62,11 @@ pub record IsWithinLimits (t : Meaning) : Type 0 where
 
 -- ---- the group around a member
 
--- What has been published where a member has published so much and the others their whole lists.
+-- The logs of the group where the member `j` has published `log` and the others their whole lists.
 abbrev pub logs_at : Meaning → ℕ → List Post → Logs
 logs_at t j log = slice_set (whole_logs t) j log
 
--- A member that published this. Nothing else of it is asked.
+-- A member that has this log and nothing else.
 abbrev pub with_log : List Post → Member
 with_log log = record no_member { log = log }
 

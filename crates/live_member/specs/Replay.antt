@@ -27,7 +27,7 @@ use Rattle.live_member.specs.Meanings.{Meaning, objects_of, world_at, environmen
 abbrev pub next_object : Meaning → ℕ → Member → NamedContents
 next_object t j m = slice_index_or (objects_of t j) (length m.log) no_object
 
--- What octets are read as.
+-- The sync Interest, by its sender and vector, that octets with this verdict are; none where they are refused.
 abbrev pub sync_read : {A : Type 0} → Result (ℕ × List ℕ) A → Option SyncInterest
 sync_read (Ok told) = Some (record { sender = told.0; vector = told.1 })
 sync_read (Err refusal) = None
@@ -36,7 +36,7 @@ sync_read (Err refusal) = None
 abbrev pub is_part : Part → Part → Bool
 is_part t u = (t.publisher == u.publisher) && ((t.seq == u.seq) && (t.part == u.part))
 
--- The packet of a part is taken for a claim of that part alone.
+-- The packet of the part `t` as the answer to a claim: it is taken where `t` is claimed, and for no other part.
 abbrev pub fed : Part → Logs → Part → Response
 fed t logs claimed = if is_part t claimed then Its else Nothing
 
@@ -56,14 +56,15 @@ is_refused t j m (event.Claim f) = is_some (claim_at (world_at t j m) j f)
 is_refused t j m (event.Accept f part) = false
 is_refused t j m (event.Lose f) = is_none (claim_at (world_at t j m) j f)
 
--- ---- its result
+-- ---- the result of an entry
 
 -- The reply with the mode of the sync state.
 abbrev pub mode_reply : Mode → LiveReply
 mode_reply Steady = reply.Steady
 mode_reply Suppressed = reply.Suppressed
 
--- What a journal says of the group's replies. Octets that are refused, and packets that aren't taken, are Refused.
+-- The reply that a journal has for a reply of the group. It is Refused for octets that are refused and for packets that
+-- aren't taken.
 abbrev pub live_reply : Reply → LiveReply
 live_reply (Reply.Published seq segments sync) = reply.Published seq
 live_reply (Reply.Heard mode) = mode_reply mode
@@ -73,18 +74,19 @@ live_reply (Reply.Lost (Some t)) = reply.Lost t
 live_reply (Reply.Fed true) = reply.Kept
 live_reply _ = reply.Refused
 
--- The member afterwards. What is refused changes nothing.
+-- The member `m`, of number `j`, after the event `e`. An event that is refused changes nothing.
 abbrev pub after : Meaning → ℕ → Member → LiveEvent → Member
 after t j m e =
     if is_refused t j m e then m else member (after_event (environment t) (world_at t j m) (event_of t j m e)) j
 
--- The reply of the group to what an entry stands for.
+-- The reply to the event `e` at the member `m`, of number `j`: Refused, or the group's reply.
 abbrev pub reply_of : Meaning → ℕ → Member → LiveEvent → LiveReply
 reply_of t j m e =
     if is_refused t j m e then reply.Refused
     else live_reply (reply_to (environment t) (world_at t j m) (event_of t j m e))
 
--- A journal's entries, taken in order at a member of that number, give these replies and end in this state.
+-- The entries, replayed in order at the member `j` from the state `from`, give the replies that they have and end in
+-- the state `to`.
 abbrev pub Replays : Meaning → ℕ → List LiveEntry → Member → Member → Type 0
 Replays t j [] from to = from ≡ to
 Replays t j (e ∷ es) from to = (reply_of t j from e.event ≡ e.reply) × Replays t j es (after t j from e.event) to

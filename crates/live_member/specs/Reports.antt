@@ -6,8 +6,8 @@ use Rattle.repo_member.specs.InGroup.{published_packet}
 use Rattle.group_model.specs.Sound.{IsPublishedPart, IsConsistentVector}
 use Rattle.live_member.specs.Meanings.{Meaning, whole_logs}
 
--- The octets are a member's sync Interest of a vector, which has one number a member, each at most the length of that
--- member's list.
+-- `octets` are the sync Interest of the member `sender` with `vector`. The vector has one number for each member, which
+-- is at most the length of that member's list.
 pub record IsReport (t : Meaning) (octets : List ℕ) : Type 0 where
   pub sender : ℕ
   pub vector : List ℕ
@@ -15,12 +15,12 @@ pub record IsReport (t : Meaning) (octets : List ℕ) : Type 0 where
   pub consistent : IsConsistentVector (whole_logs t) vector
   pub told : octets ≡ sync_of t.group sender vector
 
--- A part, with octets.
+-- A part, and the octets that are lent as its packet.
 pub record Loan : Type 0 where
   pub part : Part
   pub octets : List ℕ
 
--- A part with the octets that are lent for it.
+-- The loan of `octets` for `part`.
 abbrev pub loan : Part → List ℕ → Loan
 loan part octets = record { part = part; octets = octets }
 

@@ -81,8 +81,8 @@ pub fn lost(member: &mut Member, f: u8) -> LiveReply
     }
 }
 
-/// The packet passes for the part, so that nothing but running out of memory keeps it from being taken for a claim of
-/// it.
+/// Gives a fetcher the packet of `part`. If the fetcher claims `part`, the packet has to pass the checks; so it is
+/// taken unless memory runs out.
 pub fn accepted(
     member: &mut Member,
     g: &Group,

@@ -10,13 +10,13 @@ pub enum LiveEvent {
     Hear { octets: Octets },
     /// A fetcher claimed a part.
     Claim { f: u8 },
-    /// The packet of a part came for a fetcher's claim.
+    /// A fetcher was given the packet of a part.
     Accept { f: u8, part: Part },
     /// A fetcher's claim ended.
     Lose { f: u8 },
 }
 
-/// Its result.
+/// The reply to a `LiveEvent`.
 #[derive(Clone, Copy, Debug, PartialEq, Eq)]
 pub enum LiveReply {
     Published { seq: u16 },

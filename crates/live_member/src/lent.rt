@@ -5,7 +5,8 @@ use crate::lists::Lists;
 use repo_plan::Part;
 use std::marker::{Model, PhantomData};
 
-/// A part of a publication of the lists, with a copy of its packet: the publisher lends it to who asks for the part.
+/// A part of a publication of the lists, with a copy of its packet. The publisher lends it to a member that claims the
+/// part.
 #[derive(Drop)]
 pub struct Lent<L: Lists> {
     part: Part,

@@ -12,11 +12,11 @@ use repo_plan::Shape;
 /// How many objects all lists together have at most.
 pub const OBJECT_LIMIT: u32 = 200;
 
-/// How many parts these have at most: records, index packets and segments.
+/// How many parts the objects of all lists together have at most: records, index packets and segments.
 pub const PART_LIMIT: u32 = 4_000;
 
-/// Whether these can be the lists of a live group: one for each member, with at most 200 objects in all, and these with
-/// at most 4,000 parts.
+/// Whether `lists` can be the lists of a live group: one for each member, with at most 200 objects and 4,000 parts in
+/// all.
 pub fn are_within_limits(g: &Group, lists: &[Vec<Object>]) -> bool
     ensures { (draws : List ℕ) → IsTrue result
         ↔ IsWithinLimits (meaning_of g.now (map (λ l. l.items) lists.now) draws) }
@@ -28,7 +28,7 @@ pub fn are_within_limits(g: &Group, lists: &[Vec<Object>]) -> bool
     count_parts(lists) <= PART_LIMIT
 }
 
-// Whether all lists together have few enough objects.
+// Whether all lists together have at most 200 objects.
 fn are_few(lists: &[Vec<Object>]) -> bool
     ensures { IsTrue result ↔ (sum_by length (map (λ l. l.items) lists.now) ≤ object_limit) }
 {
@@ -42,7 +42,7 @@ fn are_few(lists: &[Vec<Object>]) -> bool
     true
 }
 
-/// How many parts the objects of all lists have, of which there are few.
+/// How many parts the objects of all lists have. There are at most 200 objects.
 pub fn count_parts(lists: &[Vec<Object>]) -> u32
     requires { sum_by length (map (λ l. l.items) lists.now) ≤ object_limit }
     ensures parts { result ≡ length (all_parts (map as_posts (map (λ l. l.items) lists.now))) }

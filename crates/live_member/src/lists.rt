@@ -1,7 +1,7 @@
 use std::marker::Brand;
 
-/// Which group it is, what each of its members is to publish, and the one value of every draw of each member. All
-/// values of one run carry one such name. Each call of a program picks what it means.
+/// A type that stands for a group, for what each of its members is to publish, and for the one value of all draws of
+/// each member. All values of one run carry the same such type. Each call of a program picks what it means.
 pub trait Lists {
     ghost use Rattle.live_member.specs.Meanings.{Meaning};
 

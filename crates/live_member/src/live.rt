@@ -22,9 +22,9 @@ use std::marker::{Model, PhantomData};
 /// The result of `publish_next`.
 #[derive(Drop)]
 pub enum NextTold<L: Lists> {
-    /// The next object was published, and this reports it.
+    /// The next object was published, and this sync Interest reports it.
     Told(Told<L>),
-    /// Nothing is to come.
+    /// No object is left to publish.
     Done,
     /// The journal has no capacity left.
     Full,
@@ -42,7 +42,8 @@ pub struct Live<L: Lists, const M: u32> {
     of: PhantomData<L>,
 }
 
-// A member with its journal is dropped by one call, which is proved once, and not field by field wherever one is left.
+// A member with its journal is dropped by one call, which is proved once, and not field by field wherever one goes out
+// of scope.
 impl<L: Lists, const M: u32> Drop for Live<L, M> {
     fn drop(self) {
         match self {
@@ -70,7 +71,7 @@ impl<L: Lists, const M: u32> Model for Live<L, M> {
 }
 
 impl<L: Lists, const M: u32> Live<L, M> {
-    /// The member of that number, which has nothing yet and is to publish these objects.
+    /// The member `number` in its initial state, with an empty journal. It is to publish `objects`.
     pub fn new(
         alloc: Global,
         g: &Group,
@@ -158,7 +159,7 @@ impl<L: Lists, const M: u32> Live<L, M> {
         Ok(reply)
     }
 
-    /// The packet of a part comes for a fetcher's claim.
+    /// A fetcher is given the packet of a part, which is kept if the fetcher claims that part.
     pub fn accept(&mut self, g: &Group, f: u8, lent: &Lent<L>) -> Result<LiveReply, AllocError>
         requires group { g.now ≡ L.meaning.group }
         requires fetcher { IsFetcher f }
@@ -210,7 +211,7 @@ impl<L: Lists, const M: u32> Live<L, M> {
         Ok(Some(Lent::new(part, octets)))
     }
 
-    /// The sync Interest of what the member knows now.
+    /// The sync Interest with the member's vector as it is now.
     pub fn tell(&self, alloc: Global, g: &Group) -> Result<Told<L>, AllocError>
         requires { g.now ≡ L.meaning.group }
         ensures { IfOk result (λ told. told ≡ sync_of L.meaning.group self.now.state.number
@@ -220,7 +221,7 @@ impl<L: Lists, const M: u32> Live<L, M> {
         Ok(Told::new(octets))
     }
 
-    /// The same member and journal, with capacity for more entries. It allocates nothing.
+    /// The same member and journal, which may now have up to 1,000,000 entries. It allocates nothing.
     pub fn widen(self) -> Live<L, 1000000>
         requires { M ≤ 1000000 }
         ensures same { result ≡ self }
@@ -247,7 +248,7 @@ impl<L: Lists, const M: u32> Live<L, M> {
 
     /// All that was done with the member, in order.
     //
-    // A caller sees the value alone, so `replays`, `brought` and `publications` state what holds of each.
+    // A caller sees the value and not the invariant, so `replays`, `brought` and `publications` state parts of that.
     pub fn journal(&self) -> &[LiveEntry]
         ensures journal { result.now ≡ self.now.journal }
         ensures replays { ReplaysTo L.meaning self.now.journal self.now.state }

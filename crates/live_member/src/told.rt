@@ -13,7 +13,7 @@ pub struct Told<L: Lists> {
     of: PhantomData<L>,
 }
 
-// It is seen as its octets.
+// A `Told` is seen as its octets.
 impl<L: Lists> Model for Told<L> {
     ghost use Rattle.std.specs.Prelude.{ℕ, List};
     ghost use Rattle.live_member.specs.Reports.{IsReport};
@@ -43,7 +43,7 @@ impl<L: Lists> Told<L> {
         self.octets.as_slice()
     }
 
-    /// A second value of the same octets.
+    /// A `Told` with a copy of the octets.
     pub fn copy(&self, alloc: Global) -> Result<Told<L>, AllocError>
         ensures { IfOk result (λ told. told ≡ self.now) }
     {
@@ -53,7 +53,7 @@ impl<L: Lists> Told<L> {
         })
     }
 
-    // The octets alone.
+    // A copy of the octets alone.
     pub(crate) fn copied(&self, alloc: Global) -> Result<Octets, AllocError>
         ensures { IfOk result (λ octets. octets ≡ self.now) }
     {

@@ -1,4 +1,4 @@
--- What is decided of a line of a live group's input, after those before it.
+-- The verdict on a line of a live group's input, by the result of the lines before it.
 use Rattle.std.specs.Prelude.{◌≡◌, ⊤, ℕ, ◌+◌, Bool, true, false, ◌&&◌, List, [], ◌∷◌, ◌++◌, length, sum_by, slice_set}
 use Rattle.std.specs.Prelude.{slice_index_or, Option, Some, None, Result, Ok, Err, nat_lt, nat_le, if◌then◌else◌}
 use Rattle.std.specs.List.{position_or_len}
@@ -32,7 +32,7 @@ pub record Reached : Type 0 where
   pub keys : GroupKeys
   pub lists : List (List NamedContents)
 
--- A group without a name, of which nobody is a member.
+-- A group without a name, members and clients.
 abbrev pub nobody : GroupKeys
 nobody = record { name = []; members = no_nodes; clients = no_nodes }
 
@@ -40,8 +40,8 @@ nobody = record { name = []; members = no_nodes; clients = no_nodes }
 abbrev pub nothing_reached : Reached
 nothing_reached = record { lines = 0; octets = 0; declared = nothing_declared; keys = nobody; lists = [] }
 
--- The verdict on a line: it is refused; or it is taken, and others may follow. What is left is that no row here is for
--- it: there is no such line.
+-- The verdict on a line: it is refused; or it is taken, and others may follow. `not_evaluated` is the verdict on a line
+-- that no row here is for: there is no such line.
 pub data Verdict : Type 0 where
   refused : Refusal → Verdict
   takes : Reached → Verdict
@@ -59,11 +59,11 @@ is_of_live refusal.Late = true
 is_of_live refusal.NotLive = true
 is_of_live _ = false
 
--- One line more is taken.
+-- One more line is taken: it is counted.
 abbrev pub counted : List ℕ → Reached → Verdict
 counted line r = takes (record r { lines = r.lines + 1; octets = r.octets + length line })
 
--- One line more is taken, which declares this and leaves the group and the lists so.
+-- One more line is taken, after which `d` is declared, and the group and the lists are these.
 abbrev pub taken : Reached → List ℕ → Declared → GroupKeys → List (List NamedContents) → Verdict
 taken r line d keys lists = counted line (record r { declared = d; keys = keys; lists = lists })
 
@@ -77,11 +77,11 @@ member_number label members = position_or_len (λ (p : Party). bytes_eq p.label 
 abbrev pub cut_object : List Component → ℕ → List ℕ → NamedContents
 cut_object name size content = record { name = name; contents = pieces size content }
 
--- A member is to publish one object more, after the others of its list.
+-- Member `m` is to publish one more object, after the others of its list.
 abbrev pub with_object : ℕ → NamedContents → List (List NamedContents) → List (List NamedContents)
 with_object m object lists = slice_set lists m (slice_index_or lists m [] ++ object ∷ [])
 
--- A live group has so many publications, octets of contents and parts at most. A total that is reached is not passed.
+-- A live group has at most `object_limit` publications, `live_contents` octets of contents and `part_limit` parts.
 abbrev pub is_few : Declared → List (List NamedContents) → Bool
 is_few d lists =
     nat_le (sum_by length lists) object_limit && nat_le d.totals.contents live_contents
@@ -108,7 +108,7 @@ named name = record { name = name; members = no_nodes; clients = no_nodes }
 abbrev pub with_member_too : List Component → List ℕ → GroupKeys → GroupKeys
 with_member_too node key g = record g { members = with_node node key g.members }
 
--- What a line does that nothing before it refuses.
+-- The verdict on a line that neither its reading nor what was declared refuses.
 abbrev pub taken_by : Verb → Reached → List ℕ → Declared → List Value → Verdict
 taken_by verb.Group r line d (Named name ∷ []) = taken r line d (named name) r.lists
 taken_by verb.Member r line d (Text label ∷ Named node ∷ Octets key ∷ []) =
@@ -132,7 +132,7 @@ abbrev pub checked : Reached → List ℕ → Stated → Result Declared CheckFa
 checked r line s (Ok d) = taken_by s.verb r line d s.values
 checked r line s (Err fault) = check_refused fault
 
--- The verdict on a line that octets are. Whether it may stand here is asked before all that was declared.
+-- The verdict on a line that was read. Whether a live group's input may have it is tested before what was declared.
 unfoldable pub evaluated_line : Reached → List ℕ → Stated → Verdict
 evaluated_line r line s =
     if may_stand s.verb then checked r line s (after_line r.declared s) else refused refusal.NotLive
@@ -145,7 +145,7 @@ evaluated_read r line (Err line_fault.Syntax) = refused refusal.Syntax
 evaluated_read r line (Err line_fault.Limit) = refused refusal.Limit
 evaluated_read r line (Err line_fault.NoMemory) = not_evaluated
 
--- An input has so many lines and octets at most. A line feed belongs to the line that it ends.
+-- An input has at most `script_lines` lines and `script_octets` octets. A line feed belongs to the line that it ends.
 abbrev pub is_within_input : Reached → List ℕ → Bool
 is_within_input r line = nat_lt r.lines script_lines && nat_le (r.octets + length line) script_octets
 
@@ -161,6 +161,6 @@ IsEvaluated (refused why) = is_of_live why ≡ true
 IsEvaluated (takes next) = ⊤
 IsEvaluated not_evaluated = ⊥
 
--- So is each line, whatever was taken before it.
+-- Each line is taken or refused for such a reason, whatever was taken before it.
 abbrev pub EachLineIsEvaluated : Type 0
 EachLineIsEvaluated = (r : Reached) (line : List ℕ) → IsEvaluated (evaluated r line)

@@ -1,7 +1,7 @@
 -- The limits of a live group's input, beside those of every script.
 use Rattle.std.specs.Prelude.{ℕ}
 
--- How many octets the contents of all publications have at most. `live_member` has the limits of their number and of
--- their parts.
+-- The most octets that the contents of all publications have. `live_member` has the limits of their number and of their
+-- parts.
 abbrev pub live_contents : ℕ
 live_contents = 1048576

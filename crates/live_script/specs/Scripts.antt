@@ -31,7 +31,7 @@ totals_view t = record { objects = t.objects; contents = t.contents; parts = t.p
 abbrev pub no_totals : TotalsView
 no_totals = record { objects = 0; contents = 0; parts = 0 }
 
--- The same with one publication more, of so many octets in so many segments.
+-- The totals with one more publication, of `octets` octets in `segments` segments.
 abbrev pub with_one_more : ℕ → ℕ → TotalsView → TotalsView
 with_one_more octets segments t = record {
   objects = t.objects + 1;

@@ -34,7 +34,7 @@ pub struct Script {
     octets: usize,
 }
 
-// It is seen as how much was taken, what that declares, the group, and the list of each member.
+// A script is seen as the number of lines and octets taken, what they declare, the group, and the list of each member.
 impl Model for Script {
     ghost use Rattle.std.specs.Prelude.{map, string_bytes};
     ghost use Rattle.live_script.specs.Evaluation.{Reached};
@@ -61,7 +61,7 @@ impl Model for Script {
 }
 
 impl Script {
-    /// No line was taken.
+    /// A script of which no line was taken.
     pub fn new(alloc: Global) -> Script
         ensures { result ≡ nothing_reached }
     {
@@ -86,7 +86,7 @@ impl Script {
         self.lines + 1
     }
 
-    /// Takes the next line, its line feed with it, or returns why not.
+    /// Takes the next line, which includes its line feed, or returns why it isn't taken.
     ///
     /// Of an input that is too long the line suffices up to the octet that is one too many.
     pub fn take(self, line: &[u8]) -> Result<Script, LineError>
@@ -109,7 +109,7 @@ impl Script {
         self.lines < LINES_LIMIT && line.len() <= SCRIPT_LIMIT - self.octets
     }
 
-    // The line counts as taken.
+    // Counts the line as taken.
     fn counted(mut self, line: &[u8]) -> Script
         requires { is_within_input self line.now ≡ true }
         ensures { counted line.now self ≡ takes result }
@@ -119,7 +119,8 @@ impl Script {
         self
     }
 
-    // Takes what a line states, and doesn't count the line. Whether it may stand in the input is asked first.
+    // Takes what a line states, and doesn't count the line. Whether the input of a live group may have the line is
+    // tested first.
     fn take_stated(self, line: &Line) -> Result<Script, LineError>
         requires { IsLine (stated line.now) }
         ensures taken { IfOk result (λ next. (octets : List ℕ)
@@ -141,7 +142,7 @@ impl Script {
         }
     }
 
-    // The group has this name, and nobody is in it yet.
+    // Declares the group of this name, without members.
     fn declare_group(mut self, line: &Line, name: &Name) -> Result<Script, LineError>
         requires line { IsLine (stated line.now) }
         requires is { stated line.now ≡ statement verb.Group (Named name.now ∷ []) }
@@ -157,7 +158,7 @@ impl Script {
         Ok(self)
     }
 
-    // There is one member more, which is to publish nothing yet.
+    // Declares one more member, which is to publish nothing yet.
     fn declare_member(
         mut self,
         line: &Line,
@@ -188,7 +189,7 @@ impl Script {
         Ok(self)
     }
 
-    // A member is to publish one object more, whose segments are the content's pieces of this size.
+    // Adds an object to those that a member is to publish. Its segments are the content's pieces of this size.
     fn publish(
         mut self,
         line: &Line,
@@ -283,14 +284,14 @@ fn object_of(alloc: Global, name: &Name, size: usize, content: &[u8]) -> Result<
     ensures is { IfOk result (λ object. object ≡ cut_object name.now size content.now) }
     ensures object { IfOk result IsObject }
 {
-    // There are few enough segments, so only memory can be wanting.
+    // There are few enough segments, so `cut` fails only where memory runs out.
     let Ok(contents) = cut(alloc, content, size) else {
         return Err(AllocError);
     };
     Ok(Object::from_parts(name.clone()?, contents))
 }
 
-// The object stands after the others of the member's list.
+// Adds the object to the member's list, after the others.
 fn add_object(lists: &mut Vec<Vec<Object>>, member: usize, object: Object) -> Result<(), AllocError>
     requires { member < length lists.old.items }
     ensures { OnOk result (map (λ l. l.items) lists.new.items
@@ -300,7 +301,7 @@ fn add_object(lists: &mut Vec<Vec<Object>>, member: usize, object: Object) -> Re
     Ok(())
 }
 
-// There is a label more, and the list of who has it, in which nothing stands yet.
+// Adds the label of a new member, and an empty list for it.
 fn add_list(
     alloc: Global,
     labels: &mut Vec<String>,
@@ -317,7 +318,7 @@ fn add_list(
     Ok(())
 }
 
-// There is a member more, of a name that nobody has, in a group that isn't full.
+// Adds a member whose name no member or client has, to a group that isn't full.
 fn add_member(group: &mut Group, node: &Name, key: &[u8]) -> Result<(), LineError>
     requires node { IsPlainNodeName node.now }
     requires key { IsKey key.now }

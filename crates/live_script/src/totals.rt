@@ -5,7 +5,7 @@ ghost use Rattle.live_script.specs.Scripts.{are_few, no_totals, totals_view, wit
 use live_member::{OBJECT_LIMIT, PART_LIMIT};
 use repo_plan::Shape;
 
-// How many octets the contents of all publications have at most.
+// The most octets that the contents of all publications have.
 pub(crate) const CONTENTS_LIMIT: usize = 1_048_576;
 
 // What the publications add up to: how many there are, the octets of their contents, and their parts.
@@ -27,7 +27,7 @@ impl Totals {
         }
     }
 
-    // These and one publication more, of so many octets in so many segments, unless a limit would be passed.
+    // The totals with one more publication, of `octets` octets in `segments` segments, unless a limit would be passed.
     pub(crate) fn with(self, octets: usize, segments: usize) -> Option<Totals>
         requires within { are_few (totals_view self) ≡ true }
         requires octets { octets ≤ 16000000 }
@@ -51,7 +51,7 @@ impl Totals {
     }
 }
 
-// How many parts a publication of so many segments has.
+// The number of parts of a publication of `segments` segments.
 fn part_count(segments: usize) -> u32
     requires { segments ≤ 20000 }
     ensures count { result ≡ publication_parts segments }

@@ -12,7 +12,7 @@ use Rattle.live_settle.specs.declared.ran.Ran.{Ran}
 use Rattle.live_settle.specs.Ready.{at, Continues, KeepPrefixes, IsJoined}
 use Rattle.live_settle.specs.Rans.{numbers_below, IsRan, AreContinued}
 
--- so many are taken out, and the others are still to be
+-- the results `rans` are made, and the members `rest` are still to be taken out
 pub record IsEnding (t : Meaning) (lives : List Living) (rans : List Ran) (rest : List Living) : Type 0 where
   pub joined : All (IsJoined t) rest
   pub numbers : map (λ r. r.member.number) rans ++ map (λ l. l.state.number) rest ≡ numbers_below (length t.lists)

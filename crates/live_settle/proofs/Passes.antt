@@ -190,7 +190,7 @@ no_turn t j ls is = record {
   few = omega arith;
 }
 
--- all parts have come before so many turns are made
+-- there are at most 4,000 turns, since each gains a part
 pub turns_end : (t : Meaning) (j n : ℕ) (old new : List Living) → Turned t j n old new → n ≤ 4000
 turns_end t j n old new is =
     let most = missing_few (whole_logs t) (keys (at old j).state.store) in

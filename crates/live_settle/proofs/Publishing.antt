@@ -37,7 +37,7 @@ few_come t most l is =
           (o : NamedContents). Offers o),
     )
 
--- so many objects were published, at most
+-- after `n` publications at most `200 - n` objects are unpublished, and the journal has at most `900000 + n` entries
 pub record IsPublishing (t : Meaning) (n : ℕ) (old l : Living) : Type 0 where
   pub live : IsLive t 1000000 l
   pub unpublished : length l.unpublished + n ≤ 200

@@ -31,7 +31,7 @@ pub record ArePlaced (t : Meaning) (ls : List Living) : Type 0 where
   pub width : length ls ≡ length t.lists
   pub numbers : (p : ℕ) → p < length ls → (at ls p).state.number ≡ p
 
--- From a place on, no journal has more entries than this.
+-- From place `from` on, no journal has more than `most` entries.
 abbrev pub HasRoom : ℕ → ℕ → List Living → Type 0
 HasRoom from most ls = (p : ℕ) → from ≤ p → p < length ls → length (at ls p).journal ≤ most
 
@@ -54,7 +54,7 @@ pub record Only (j : ℕ) (old new : List Living) : Type 0 where
 
 -- ---- what was published, and claims
 
--- A fetcher's claim has ended, by an entry; where it had none nothing has changed.
+-- The claim of fetcher `f` has ended, by an entry; where there was none nothing has changed.
 pub record Loses (t : Meaning) (f : ℕ) (old new : Living) : Type 0 where
   pub live : IsLive t 1000000 new
   pub none : claim_of (member_plan old.state) f ≡ None → new ≡ old
@@ -70,7 +70,7 @@ pub record IsReady (t : Meaning) (l : Living) : Type 0 where
   pub unpublished : l.unpublished ≡ []
   pub claims : l.state.claims ≡ no_claims
 
--- A member was made ready, with so many entries in its journal at most. Its journal begins with the one that it had.
+-- A member was made ready, with at most `most` entries in its journal. Its journal begins with the one that it had.
 pub record MakesReady (t : Meaning) (most : ℕ) (old new : Living) : Type 0 where
   pub ready : IsReady t new
   pub number : new.state.number ≡ old.state.number
@@ -88,7 +88,7 @@ pub record AreReady (t : Meaning) (ls : List Living) : Type 0 where
 abbrev pub KnowsThose : Logs → ℕ → List ℕ → Type 0
 KnowsThose ls n known = (p : ℕ) → p < n → last_of ls p ≤ slice_index known p
 
--- The member at place `j` knows of the lists of the first `n` members, by so many entries at most.
+-- The member at place `j` knows of the lists of the first `n` members, by at most `entries` entries more.
 pub record Hears (t : Meaning) (j n entries : ℕ) (old new : List Living) : Type 0 where
   pub only : Only j old new
   pub ready : IsReady t (at new j)
@@ -120,7 +120,7 @@ missing ls held = filter (λ t. not (contains part_cmp held t)) (all_parts ls)
 abbrev pub missing_of : Meaning → MemberState → ℕ
 missing_of t a = length (missing (whole_logs t) (keys a.store))
 
--- The member at place `j` got so many parts, each by two entries.
+-- The member at place `j` gained at least `turns` parts, by at most `2 * turns` entries.
 pub record Turned (t : Meaning) (j turns : ℕ) (old new : List Living) : Type 0 where
   pub only : Only j old new
   pub gathering : IsGathering t (at new j)
@@ -137,7 +137,7 @@ pub record Joins (t : Meaning) (j : ℕ) (old new : List Living) : Type 0 where
   pub only : Only j old new
   pub joined : IsJoined t (at new j)
 
--- A part has come; or nothing is to be claimed.
+-- The member at place `j` gained a part; or nothing is to be claimed, and its catalogue is the join of all lists.
 abbrev pub AfterTurn : Meaning → ℕ → List Living → List Living → Bool → Type 0
 AfterTurn t j old new true = Turned t j 1 old new
 AfterTurn t j old new false = Joins t j old new
@@ -148,7 +148,7 @@ pub record ClaimsAndTakes (old new : Living) : Type 0 where
   pub journal : new.journal
       ≡ old.journal ++ entry (event.Claim 1) (reply.Claimed part) ∷ entry (event.Accept 1 part) reply.Kept ∷ []
 
--- It has done so; or it found no part, by one entry.
+-- Fetcher 1 has claimed a part and taken its packet, by two entries; or it found no part, by one entry.
 abbrev pub EntersTurn : Living → Living → Bool → Type 0
 EntersTurn old new true = ClaimsAndTakes old new
 EntersTurn old new false = new.journal ≡ old.journal ++ entry (event.Claim 1) reply.NoPart ∷ []

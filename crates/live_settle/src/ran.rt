@@ -1,7 +1,7 @@
 use live_member::LiveEntry;
 use repo_member::Member;
 
-/// All that was done with a member of a live group, and what it has in the end.
+/// The journal of a member of a live group, and the member at the end.
 #[derive(Drop)]
 pub struct Ran {
     pub journal: Vec<LiveEntry>,

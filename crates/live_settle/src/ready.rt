@@ -10,7 +10,7 @@ use std::alloc::AllocError;
 
 const LAST_FETCHER: u8 = 16;
 
-/// What is left of each list is published, and each claim ends.
+/// The rest of each list is published, and each claim ends.
 pub fn all_ready<L: Lists>(g: &Group, lives: &mut [Live<L, 1000000>]) -> Result<(), AllocError>
     requires group { g.now ≡ L.meaning.group }
     requires placed { ArePlaced L.meaning lives.old }
@@ -26,7 +26,7 @@ pub fn all_ready<L: Lists>(g: &Group, lives: &mut [Live<L, 1000000>]) -> Result<
     Ok(())
 }
 
-// What is left of a member's list is published, and each of its claims ends.
+// The rest of a member's list is published, and each of its claims ends.
 fn ready<L: Lists>(g: &Group, live: &mut Live<L, 1000000>) -> Result<(), AllocError>
     requires group { g.now ≡ L.meaning.group }
     requires live { IsLive L.meaning 1000000 live.old }
@@ -37,7 +37,7 @@ fn ready<L: Lists>(g: &Group, live: &mut Live<L, 1000000>) -> Result<(), AllocEr
     lose_claims(g, live)
 }
 
-// What isn't published yet of the list is published.
+// The rest of the list is published.
 fn publish_rest<L: Lists>(g: &Group, live: &mut Live<L, 1000000>) -> Result<(), AllocError>
     requires group { g.now ≡ L.meaning.group }
     requires live { IsLive L.meaning 1000000 live.old }
@@ -52,7 +52,7 @@ fn publish_rest<L: Lists>(g: &Group, live: &mut Live<L, 1000000>) -> Result<(), 
     Ok(())
 }
 
-// Each held claim ends.
+// The claim of each fetcher ends, if it has one.
 fn lose_claims<L: Lists>(g: &Group, live: &mut Live<L, 1000000>) -> Result<(), AllocError>
     requires live { IsLive L.meaning 1000000 live.old }
     requires unpublished { live.old.unpublished ≡ [] }

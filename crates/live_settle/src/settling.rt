@@ -11,8 +11,8 @@ use live_member::{Lists, Live};
 use repo_member::Group;
 use std::alloc::{AllocError, Global};
 
-/// Publishes what is left of each list, and settles: each claim ends, each member hears all others, and then each
-/// fetches what it wants. The members stand in order of their numbers, each with capacity for 100,000 entries.
+/// Publishes the rest of each list, and settles: each claim ends, each member hears all others, and then each fetches
+/// what it wants. The members stand in order of their numbers, each with capacity for 100,000 entries.
 ///
 /// Where memory runs out the members are dropped.
 pub fn settle<L: Lists>(
@@ -33,7 +33,7 @@ pub fn settle<L: Lists>(
     all_ran(alloc, lives)
 }
 
-// What the members did and have.
+// The journal and the member of each place.
 fn all_ran<L: Lists>(alloc: Global, lives: Vec<Live<L, 1000000>>) -> Result<Vec<Ran>, AllocError>
     requires numbers { map (λ l. l.state.number) lives.items ≡ numbers_below (length L.meaning.lists) }
     requires joined { All (IsJoined L.meaning) lives.items }

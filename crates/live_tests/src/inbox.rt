@@ -74,7 +74,7 @@ fn values_come_in_the_order_in_which_they_were_put(rt: HostRuntime) -> Result<()
     Ok(())
 }
 
-// How many of so many values, numbered from the first, an inbox took.
+// Puts up to `count` values, numbered from `first` on, into an inbox, and counts those that it took.
 fn put_some<R: Wait>(
     rt: &R,
     inbox: &Inbox<u32>,
@@ -99,7 +99,7 @@ fn put_some<R: Wait>(
     put
 }
 
-// Takes up to so many values.
+// Takes up to `count` values.
 fn take_some<R: Wait>(
     rt: &R,
     alloc: Global,

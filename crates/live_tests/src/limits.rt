@@ -5,7 +5,7 @@ use repo_object::Object;
 use std::process::Abort;
 use std::test::*;
 
-// So many objects of so many segments.
+// `objects` objects of `segments` segments each.
 fn list(rt: &(impl Abort + AllocGlobal), objects: usize, segments: usize) -> Vec<Object> {
     let content = vec![in rt.alloc(); 7; segments].expect(rt, "memory");
     let mut list = Vec::new(rt.alloc());

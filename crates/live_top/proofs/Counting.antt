@@ -1,4 +1,4 @@
--- How many octets lines have that are taken, and what an input that is too long comes to.
+-- How many octets the lines that are taken have, and the outcome of an input that is too long.
 use Rattle.std.proofs.Common.{◌≡◌, ◌∙◌, ℕ, ◌+◌, ◌<◌, ◌≤◌, Bool, true, false, nat_lt, List, [], ◌∷◌, ◌++◌}
 use Rattle.std.proofs.Common.{length}
 use Rattle.std.proofs.Common.{Option, Some, None, Result, Ok, Err, refl, ap, subst, append_assoc, length-append}
@@ -32,7 +32,7 @@ use Rattle.live_top.specs.Outcomes.{Refused, Taken, outcome_after, outcome_from,
 
 -- ---- octets that are taken
 
--- What is taken counts the line's octets.
+-- Where the line is taken, its octets are counted.
 abbrev Counts : Reached → List ℕ → Verdict → Type 0
 Counts r line (refused why) = Unit {0}
 Counts r line (takes next) = next.octets ≡ r.octets + length line
@@ -171,7 +171,7 @@ refused_longer r (line ∷ next ∷ ls) after n why are more is =
           others m (omega (arith, more, one.octets, length-append line (concat (next ∷ ls)))) h
       go not_evaluated j h others = absurd cc
 
--- An input that is refused and longer than any may be is refused so however it goes on.
+-- An input that is longer than the limit and refused is refused in the same way whatever octets follow it.
 pub refused_whole : (input after : List ℕ) (n : ℕ) (why : Refusal) → 16777216 < length input
     → outcome_of input ≡ Refused n why → outcome_of (input ++ after) ≡ Refused n why
 refused_whole input after n why more is =

@@ -1,4 +1,4 @@
--- The first line of an input, and what the lines after it come to.
+-- The first line of an input, and the outcome of the lines after it.
 use Rattle.std.proofs.Common.{◌≡◌, ◌≢◌, ◌∙◌, ℕ, zero, suc, ◌+◌, ◌<◌, true, false, eqb, List, []}
 use Rattle.std.proofs.Common.{◌∷◌, length, take, drop}
 use Rattle.std.proofs.Common.{get_or, Some, None, position, refl, sym, arith}
@@ -46,7 +46,7 @@ whole_line octets prefix back f b is =
     let none : back ≡ [] = b ∙ drop_all (length octets) octets (omega arith) in
     rw (all, none) is
 
--- ---- what lines come to
+-- ---- the outcome of lines
 
 pub taken_on : (o : Outcome) (r next : Reached) (octets line after : List ℕ) → o ≡ outcome_from r (lines octets)
     → lines octets ≡ line ∷ lines after → evaluated r line ≡ takes next → o ≡ outcome_from next (lines after)

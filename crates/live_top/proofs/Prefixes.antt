@@ -17,7 +17,7 @@ use Rattle.live_top.specs.Inputs.{IsRead}
 use Rattle.live_top.specs.Journals.{live_text}
 use Rattle.live_top.specs.Outcomes.{Outcome, Refused, Taken, labels_at, outcome_of}
 
--- What a line's refusal wrote says why it is refused.
+-- The text that was written for a refused line says why the line is refused.
 pub says_refused : (left a b : Option (List ℕ)) (line : ℕ) (why : Refusal) (s : Status) → Refuses line why a b s
     → (is_of_live why ≡ true) × IfSome left (λ input. outcome_of input ≡ Refused line why)
     → (at number : ℕ) → s ≡ status.Refused at number → SaysRefused at number a b
@@ -30,7 +30,7 @@ says_refused left a b line why s is halted at number answered =
       text = subst (λ (n : ℕ). GainsText a b (refusal_text n why)) (sym reported.0) reported.2;
     }
 
--- An input that was read to its end came to what its lines came to.
+-- The outcome of an input that was read to its end is the result of its lines.
 read_outcome : (left rest : Option (List ℕ)) (r : Reached) → IsRead left rest r
     → IfSome left (λ input. outcome_of input ≡ Taken r)
 read_outcome None rest r is = tt
@@ -81,7 +81,7 @@ module _ (draw : ℕ → ℕ → ℕ) (a b : Option (List ℕ)) where
   refuses_prefix line why status.NoMemory is = inl refl
   refuses_prefix line why (status.Foreign at) is = absurd is
 
-  -- the same over the whole input
+  -- what was written, by the outcome of the whole input
   module _ (Same : Type 0) (s : Status) (same : s ≡ status.NoMemory → Same) where
     over_input : (left : Option (List ℕ)) (o : Outcome)
         → (s ≡ status.NoMemory) ⊎ WritesPrefix draw o a b (s ≡ status.WriteFault)

@@ -29,7 +29,7 @@ use Rattle.live_member.specs.Replay.{after, next_object, sync_read, fed}
 
 -- ---- claims
 
--- a claimed part's publisher is one of so many members
+-- a claimed part's publisher is below `n`, the number of members
 abbrev pub IsBelow : ℕ → Option Part → Type 0
 IsBelow n None = Unit {0}
 IsBelow n (Some t) = t.publisher < n
@@ -47,7 +47,7 @@ known_place known p s one most = elim (cases_lt p (length known)) [
   | inr past ↦ let none : get_or known p 0 ≡ 0 = get_or_past known p 0 past in absurd (omega (arith, none, one, most))
 ]
 
--- a part that can be claimed is of a publisher of whom the vector tells
+-- a part that can be claimed is of a publisher that has a number in the vector
 pub open_below : (ls : Logs) (m : Member) (c : Option Part) → first (unclaimed (plan_of ls m)) ≡ c
     → IsBelow (length m.known) c
 open_below ls m None is = tt
@@ -60,7 +60,8 @@ open_below ls m (Some t) is =
 
 -- ---- events
 
--- the vector is no shorter, and each claim is an old one or of a publisher of whom the vector tells
+-- the vector gets no shorter; and where the publishers of all claims are below `n`, which is at least the length of the
+-- old vector, they still are afterwards
 pub record GoesOn (from to : Member) : Type 0 where
   pub longer : length from.known ≤ length to.known
   pub claims : (n : ℕ) → length from.known ≤ n → All (IsBelow n) from.claims → All (IsBelow n) to.claims
@@ -93,7 +94,7 @@ module _ (t : Meaning) (j : ℕ) (there : j < length t.lists) (m : Member) where
   pub same : member w j ≡ m
   same = get_or-set_same (map with_log (whole_logs t)) j m no_member (omega (arith, there, before))
 
-  -- what the member at this place has become
+  -- what the member at the place `j` has become
   becomes : (x : Member) → GoesOn (member w j) x → GoesOn m (member (with_member w j x) j)
   becomes x goes =
       let wide : j < length w.members =

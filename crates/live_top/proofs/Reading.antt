@@ -1,4 +1,4 @@
--- What reading an input comes to, by what was read of it.
+-- The result of reading an input, by the octets that were read of it.
 use Rattle.std.proofs.Common.{◌≡◌, ◌∙◌, ℕ, ◌+◌, ◌<◌, ◌≤◌, true, ltb, List, [], ◌∷◌, ◌++◌, length, Option, Some, None}
 use Rattle.std.proofs.Common.{Result, Ok, Err}
 use Rattle.std.proofs.Common.{refl, sym, ap, subst, arith, inl, inr}
@@ -30,7 +30,7 @@ read_whole left rest input (Ok script) read ended taken =
     let few = input_within input script taken in
     record { input = input; read = read; ended = ended (omega (arith, few)); taken = taken }
 
--- A line that is refused of what was read is the first that is refused of the whole.
+-- The first line that is refused of the octets that were read is the first that is refused of the whole input.
 refused_of : (left rest : Option (List ℕ)) (input : List ℕ) (n : ℕ) (why : Refusal)
     → Keeps left (prepend_known input rest) → (length input < 16777217 → IsAtEnd rest)
     → outcome_of input ≡ Refused n why → IfSome left (λ whole. outcome_of whole ≡ Refused n why)
@@ -73,7 +73,7 @@ halted_at left rest old new input (Err (halt.Refused n why)) read most ended sto
     (refused_among _ (lines input) n why stops, refused_of left rest input n why read ended stops)
 halted_at left rest old new input (Err halt.NoMemory) read most ended stops = tt
 
--- Nothing was read whole.
+-- Why reading halts where the input could not be read to its end.
 pub halts_unread : {A : Type 0} (left : Option (List ℕ)) (old new : ℕ) (r : Result A InputError) (f : ReadFault)
     → (f ≡ fault.Failed → HasRisen old new) → IsErrAnd r (λ h. h ≡ halt_of f) → IfErr r (IsHaltedAt left old new)
 halts_unread left old new (Ok x) f risen is = tt

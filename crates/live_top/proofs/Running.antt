@@ -1,4 +1,4 @@
--- The members that an input's lines gave, and what a run of nobody comes to.
+-- The members that an input's lines gave, and how a run without members ends.
 use Rattle.std.proofs.Common.{◌≡◌, ◌∙◌, ℕ, List, [], map, length, Option, sym, ap, subst}
 use Rattle.std.proofs.lemmas.List.{length-map}
 use Rattle.std.proofs.lemmas.List.Elements.{All-nil}
@@ -18,7 +18,7 @@ module _ (draw : ℕ → ℕ → ℕ) (r : Reached) (m : Members) (gives : Gives
   count : length m.lists.items ≡ length r.lists
   count = sym (length-map m.lists.items (λ l. l.items)) ∙ ap length gives.lists
 
-  -- what runs is what the lines gave
+  -- the group and the lists of the run are those that the lines gave
   pub same_meaning : meaning_of m.group (map (λ l. l.items) m.lists.items) (first_draws draw (length m.lists.items))
       ≡ meaning_at draw r
   same_meaning = λ i. meaning_of (gives.group i) (gives.lists i) (first_draws draw (count i))

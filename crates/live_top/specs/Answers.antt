@@ -21,22 +21,22 @@ abbrev pub is_live : List (List ℕ) → Bool
 is_live (word ∷ []) = bytes_eq word (codes "live")
 is_live _ = false
 
--- The status of a run over an input with this result. Under 0, which is no refusal's number, a line would be refused
--- that no row evaluates.
+-- The status of a run over an input with this outcome. No input is `Unjudged`, and no refusal has the number 0.
 abbrev pub status_of : Outcome → Status
 status_of (Refused line why) = status.Refused line (refusal_number why)
 status_of (Taken r) = status.Done
 status_of Unjudged = status.Refused 0 0
 
--- The line is refused, for a reason that a live group's input has, and what was written says so.
+-- The line is refused under `number`, for a reason that a live group's input can have, and the refusal was written.
 pub record SaysRefused (line number : ℕ) (old new : Option (List ℕ)) : Type 0 where
   pub why : Refusal
   pub among : is_of_live why ≡ true
   pub number_is : number ≡ refusal_number why
   pub text : GainsText old new (refusal_text line why)
 
--- An input was read to its end, each of its lines was taken, its members ran, and what was written are their journals
--- and catalogues. Of a source and a sink it is given what was left and written before and after.
+-- An input was read to its end, each of its lines was taken, its members ran, and their journals and catalogues were
+-- written. `left` and `rest` are what is left in the source before and after the run. `old` and `new` are what was
+-- written to the sink before and after it.
 pub record HasRun (draw : ℕ → ℕ → ℕ) (left rest old new : Option (List ℕ)) (rans : List Ran) : Type 0 where
   pub input : List ℕ
   pub read : Keeps left (prepend_known input rest)
@@ -46,20 +46,22 @@ pub record HasRun (draw : ℕ → ℕ → ℕ) (left rest old new : Option (List
   pub ran : AreRans (meaning_at draw reached) rans
   pub text : GainsText old new (live_text (labels_at reached) rans)
 
--- A text that a run may write over an input with this result: why a line is refused; or the journals and catalogues
--- of members that ran.
+-- A text that a run may write over an input whose lines were all taken: the journals and catalogues of members that
+-- ran.
 pub record ReportsOfRun (draw : ℕ → ℕ → ℕ) (r : Reached) (text : List ℕ) : Type 0 where
   pub rans : List Ran
   pub ran : AreRans (meaning_at draw r) rans
   pub is : text ≡ live_text (labels_at r) rans
 
--- The texts that a run may write over an input with this outcome.
+-- A text that a run may write over an input with this outcome: the refusal of a line, or the journals and catalogues of
+-- members that ran.
 abbrev pub MayWrite : (ℕ → ℕ → ℕ) → Outcome → List ℕ → Type 0
 MayWrite draw (Refused line why) text = text ≡ refusal_text line why
 MayWrite draw (Taken r) text = ReportsOfRun draw r text
 MayWrite draw Unjudged text = ⊥
 
--- A prefix of such a text was written; and where it fell short, not the whole.
+-- A prefix of a text that a run may write over an input with this outcome was written. If `FellShort` holds, it isn't
+-- the whole text.
 pub record WritesPrefix (draw : ℕ → ℕ → ℕ) (outcome : Outcome) (old new : Option (List ℕ)) (FellShort : Type 0)
     : Type 0 where
   pub text : List ℕ
@@ -70,43 +72,46 @@ pub record WritesPrefix (draw : ℕ → ℕ → ℕ) (outcome : Outcome) (old ne
 
 -- The words alone decide on `Usage`.
 pub record UsageIsOfWords (words : List (List ℕ)) (answer : Status) (SameSource SameSink : Type 0) : Type 0 where
-  -- It comes exactly where they aren't `live`.
+  -- The answer is `Usage` exactly where the words aren't `live`.
   pub usage : (answer ≡ status.Usage) ↔ (is_live words ≡ false)
-  -- Then nothing is read or written.
+  -- On `Usage` nothing is read or written.
   pub untouched : answer ≡ status.Usage → SameSource × SameSink
 
--- The status is of the lines of the input.
+-- What the lines of the input decide of the status.
 pub record IsOfLines (left : Option (List ℕ)) (answer : Status) : Type 0 where
-  -- On `Done` and `Refused` it is their result.
+  -- On `Done` and `Refused` the status is that of the input's outcome.
   pub reported : IsEndOfRun answer → IfSome left (λ input. answer ≡ status_of (outcome_of input))
   -- No line brings octets, so none is foreign.
   pub never_foreign : (line : ℕ) → answer ≢ status.Foreign line
 
--- The members that are left.
+-- The members that are left in `end`.
 pub record LeavesRans (draw : ℕ → ℕ → ℕ) (left rest old new : Option (List ℕ)) (answer : Status)
     (end : Option (Vec Ran Global)) : Type 0 where
-  -- On `Done` they are there,
+  -- On `Done`, `end` isn't `None`.
   pub there : answer ≡ status.Done → IsSome end
-  -- and ran as the input says, which was read to its end, and their journals and catalogues were written.
+  -- On `Done` the input was read to its end, the members in `end` ran as it says, and their journals and catalogues
+  -- were written.
   pub done : answer ≡ status.Done → IfSome end (λ rans. HasRun draw left rest old new rans.items)
-  -- In every other case there are none.
+  -- On every other answer `end` is `None`.
   pub none : answer ≢ status.Done → end ≡ None
 
 -- The other answers have their causes. Memory may run out at any time.
 pub record HasCause (words : List (List ℕ)) (left : Option (List ℕ)) (answer : Status)
     (SameSink SourceFailed SinkFailed : Type 0) : Type 0 where
-  -- `ReadFault` comes only where the source failed, and then nothing was written.
+  -- The answer is `ReadFault` only where the source failed, and then nothing was written.
   pub read_fault : answer ≡ status.ReadFault → SourceFailed
   pub unwritten : answer ≡ status.ReadFault → SameSink
-  -- `WriteFault` comes only where the sink failed.
+  -- The answer is `WriteFault` only where the sink failed.
   pub write_fault : answer ≡ status.WriteFault → SinkFailed
-  -- Where nothing fails, the answer is the result of the lines, unless memory runs out.
+  -- Where the words are `live` and neither source nor sink fails, the answer is that of the input's outcome, unless
+  -- memory runs out.
   pub complete : is_live words ≡ true → (SourceFailed → ⊥) → (SinkFailed → ⊥)
       → IfSome left (λ input. (answer ≡ status_of (outcome_of input)) ⊎ (answer ≡ status.NoMemory))
 
 -- ---- the two ends of a run
 
--- The line is refused, and what was written says so; or a prefix of that alone was written, or nothing.
+-- The answers to a line that is refused. On `Refused` the refusal was written. On `WriteFault` a prefix of it was
+-- written, and not the whole. On `NoMemory` nothing is said here.
 abbrev pub Refuses : ℕ → Refusal → (old new : Option (List ℕ)) → Status → Type 0
 Refuses line why old new (status.Refused at number) =
     (at ≡ line) × (number ≡ refusal_number why) × GainsText old new (refusal_text line why)
@@ -114,13 +119,14 @@ Refuses line why old new status.WriteFault = GainsPrefix old new (refusal_text l
 Refuses line why old new status.NoMemory = ⊤
 Refuses line why old new _ = ⊥
 
--- The members that the lines gave ran and are left, and their journals and catalogues were written; or a prefix of
--- those alone was written, or nothing, and none are left.
+-- The members that the lines gave ran, `rans` is the result, and their journals and catalogues were written.
 pub record RunsTo (draw : ℕ → ℕ → ℕ) (r : Reached) (old new : Option (List ℕ)) (rans : List Ran) : Type 0 where
   pub ran : AreRans (meaning_at draw r) rans
   pub text : GainsText old new (live_text (labels_at r) rans)
 
--- What a run of a group leaves: its journals where it is done, and none where it ended before.
+-- How a run of a group ends. On `Done` the members that ran are left, and their journals and catalogues were written.
+-- On `WriteFault` and `NoMemory` no members are left, and on `WriteFault` a prefix of such a text was written, and not
+-- the whole.
 abbrev pub Runs : (ℕ → ℕ → ℕ) → Reached → (old new : Option (List ℕ)) → Option (Vec Ran Global) → Status → Type 0
 Runs draw r old new (Some rans) status.Done = RunsTo draw r old new rans.items
 Runs draw r old new None status.WriteFault = WritesPrefix draw (Taken r) old new ⊤

@@ -18,7 +18,8 @@ pub record IsRead (left rest : Option (List ℕ)) (r : Reached) : Type 0 where
   pub ended : IsAtEnd rest
   pub taken : outcome_of input ≡ Taken r
 
--- An input with this result stops so, unless memory ran out. No source fails meanwhile.
+-- Taking the lines of an input with this outcome stops with this error: the first refusal, or memory ran out. No source
+-- fails meanwhile.
 abbrev pub Stops : Outcome → InputError → Type 0
 Stops outcome halt.Failed = ⊥
 Stops outcome (halt.Refused line why) = outcome ≡ Refused line why
@@ -29,13 +30,14 @@ abbrev pub halt_of : ReadFault → InputError
 halt_of fault.Failed = halt.Failed
 halt_of fault.NoMemory = halt.NoMemory
 
--- Why nothing runs where this line isn't taken.
+-- Why nothing runs where the line of this number isn't taken.
 abbrev pub halt_at : ℕ → LineError → InputError
 halt_at line (error.Refused why) = halt.Refused line why
 halt_at line error.NoMemory = halt.NoMemory
 
--- A line of the input is the first that is refused, however much of it was read, for a reason that such an input has;
--- or the source failed, or memory ran out.
+-- Why reading an input halts. A line is the first of the whole input that is refused, however much of the input was
+-- read, for a reason that a live group's input can have; or the source failed, or memory ran out. `left` is what is
+-- left in the source before, and `old` and `new` count the source's faults before and after.
 abbrev pub IsHaltedAt : Option (List ℕ) → (old new : ℕ) → InputError → Type 0
 IsHaltedAt left old new halt.Failed = HasRisen old new
 IsHaltedAt left old new (halt.Refused line why) =

@@ -16,15 +16,16 @@ use Rattle.script_report.specs.Labels.{label_at, publisher_label}
 
 -- ---- an entry
 
--- A fetcher, and a part that it claimed or lost.
+-- The line of a fetcher and of a part that it claimed or lost.
 abbrev pub part_line : List (List ℕ) → List ℕ → ℕ → Part → List ℕ
 part_line labels verb f t = journal_part_text verb f (label_at labels t.publisher) t.seq t.part
 
--- A fetcher, the part whose packet came for it, and what became of it.
+-- The line of a fetcher that was given the packet of the part `t`, with what became of the packet (`how`).
 abbrev pub feed_line : List (List ℕ) → ℕ → Part → List ℕ → List ℕ
 feed_line labels f t how = journal_feed_text f (label_at labels t.publisher) t.seq t.part how
 
--- The line of an entry. A journal that replays has entries of these forms alone; of any other there is no line.
+-- The line of an entry. A journal that replays has entries of these forms alone; an entry of any other form has no
+-- line.
 abbrev pub line_of_entry : List (List ℕ) → LiveEvent → LiveReply → List ℕ
 line_of_entry labels event.Publish (reply.Published seq) = journal_publish_text seq
 line_of_entry labels (event.Hear octets) reply.Steady = journal_hear_text octets (codes "steady")
@@ -64,7 +65,7 @@ journals labels (own ∷ others) [] = []
 journals labels (own ∷ others) (r ∷ rans) =
     journal_lines labels own r.journal.items ++ journals labels others rans
 
--- So the catalogues.
+-- The catalogue of each member, under the member's own label.
 unfoldable pub catalogues : List (List ℕ) → List (List ℕ) → List Ran → List ℕ
 catalogues labels [] rans = []
 catalogues labels (own ∷ others) [] = []

@@ -7,7 +7,8 @@ use Rattle.repo_io.specs.Lines.{lines}
 use Rattle.script_report.specs.declared.refusal.Refusal.{Refusal}
 use Rattle.live_script.specs.Evaluation.{Reached, Verdict, nothing_reached, evaluated, refused, takes, not_evaluated}
 
--- The first line that is refused, and why; or the result of all lines. There is no line that no row evaluates.
+-- The first line that is refused, and why; or the result of all lines. `Unjudged` stands for a line that no row
+-- evaluates. There is no such line.
 pub data Outcome : Type 0 where
   Refused : (line : ℕ) → Refusal → Outcome
   Taken : Reached → Outcome
@@ -19,7 +20,7 @@ outcome_after others line (refused why) = Refused line why
 outcome_after others line (takes next) = others next
 outcome_after others line not_evaluated = Unjudged
 
--- What is decided of lines, after those before them.
+-- The outcome of lines, where `r` is the result of the lines before them.
 unfoldable pub outcome_from : Reached → List (List ℕ) → Outcome
 outcome_from r [] = Taken r
 outcome_from r (line ∷ others) = outcome_after (λ next. outcome_from next others) (r.lines + 1) (evaluated r line)
@@ -30,7 +31,7 @@ outcome_of input = outcome_from nothing_reached (lines input)
 
 -- ---- the group of an input
 
--- The first draw of each of so many members.
+-- The first draw of each member in a group of `members` members.
 abbrev pub first_draws : (ℕ → ℕ → ℕ) → ℕ → List ℕ
 first_draws draw members = map (λ m. draw m 0) (numbers_below members)
 

@@ -33,13 +33,14 @@ impl From<ReadFault> for InputError {
     }
 }
 
-// Reads the input to its end and takes its lines. No more is read of one that is too long.
+// Reads the input to its end and takes its lines. Of an input beyond the limit, the octet after the limit is the last
+// that is read.
 pub(crate) fn read_script<S: Source>(alloc: Global, source: &mut S) -> Result<Script, InputError>
     ensures read { IfOk result (IsRead (S.left source.old) (S.left source.new)) }
     ensures halted { IfErr result
         (IsHaltedAt (S.left source.old) (S.faults source.old) (S.faults source.new)) }
 {
-    // One octet more than are taken, so that a longer input shows.
+    // One octet more than an input may have, so that a longer input is noticed.
     let input = read_up_to(alloc, source, SCRIPT_LIMIT + 1)?;
     script_of(alloc, &input)
 }
@@ -73,7 +74,7 @@ fn halt_at(line: u32, error: LineError) -> InputError
     }
 }
 
-// The first line, its line feed with it, and what stands after it.
+// The first line, with its line feed, and the octets after it.
 fn first_line(octets: &[u8]) -> (&[u8], &[u8])
     requires { octets.now ≢ [] }
     ensures cut { lines octets.now ≡ result.0.now ∷ lines result.1.now }

@@ -42,7 +42,7 @@ fn put_journals(text: &mut Vec<u8>, labels: &[String], rans: &[Ran]) -> Result<(
     Ok(())
 }
 
-// The journal of the member with this label.
+// Writes the journal of the member with the label `own`.
 fn put_entries(
     text: &mut Vec<u8>,
     labels: &[String],
@@ -59,7 +59,7 @@ fn put_entries(
     Ok(())
 }
 
-// The line of an entry. One of no form that a journal has gets none.
+// Writes the line of an entry. An entry of a form that no journal has gets no line.
 fn put_entry(text: &mut Vec<u8>, labels: &[String], entry: &LiveEntry) -> Result<(), AllocError>
     ensures { Appends (entry_line (map string_bytes labels.now) entry.now) text.old.items text.new.items result }
 {
@@ -133,7 +133,7 @@ fn put_catalogues(text: &mut Vec<u8>, labels: &[String], rans: &[Ran]) -> Result
     Ok(())
 }
 
-// The catalogue of the member with this label.
+// Writes the catalogue of the member with the label `own`.
 fn put_listed(
     text: &mut Vec<u8>,
     labels: &[String],

@@ -38,7 +38,7 @@ pub fn run_live<R: Threads + Wait + Sync, S: Source, K: Sink, D: Draws, G: Gate 
 ) -> Status
     requires { end.old ≡ None }
 
-    // `Usage` comes exactly where the words aren't `live`, and then nothing is read or written.
+    // `Usage` is answered exactly where the words aren't `live`, and then nothing is read or written.
     ensures usage { UsageIsOfWords (map string_bytes words.now) result
         (source.new ≡ source.old) (sink.new ≡ sink.old) }
 
@@ -46,9 +46,9 @@ pub fn run_live<R: Threads + Wait + Sync, S: Source, K: Sink, D: Draws, G: Gate 
     // are taken. No line brings octets, so none is foreign.
     ensures lines { IsOfLines (S.left source.old) result }
 
-    // On `Done` the members that are left ran as the input says: the journal of each replays to it, from its beginning
-    // with the input's group and lists and the member's first draw for every one, and its catalogue is the join of all
-    // lists. What was written are their journals and then their catalogues.
+    // On `Done` the members in `end` ran as the input says, with its group and lists, where every draw of a member is
+    // its first. The journal of each replays from the member's initial state to the member, and the member's catalogue
+    // is the join of all lists. Their journals and then their catalogues were written.
     ensures left { LeavesRans (D.draw draws.now) (S.left source.old) (S.left source.new) (K.out sink.old)
         (K.out sink.new) result end.new }
 
@@ -60,8 +60,8 @@ pub fn run_live<R: Threads + Wait + Sync, S: Source, K: Sink, D: Draws, G: Gate 
     ensures causes { HasCause (map string_bytes words.now) (S.left source.old) result (sink.new ≡ sink.old)
         (HasRisen (S.faults source.old) (S.faults source.new)) (HasRisen (K.faults sink.old) (K.faults sink.new)) }
 
-    // Whatever comes, nothing was written, or a prefix of a text that such a run may write, and after `WriteFault` not
-    // the whole of it.
+    // Whatever the answer is, nothing was written, or a prefix of a text that a run over this input may write. After
+    // `WriteFault` it isn't the whole text.
     ensures prefix { IfSome (S.left source.old) (λ input. (sink.new ≡ sink.old)
         ⊎ WritesPrefix (D.draw draws.now) (outcome_of input) (K.out sink.old) (K.out sink.new)
         (result ≡ Status.WriteFault)) }
@@ -102,7 +102,7 @@ fn refuse<K: Sink>(alloc: Global, line: u32, why: Refusal, sink: &mut K) -> Stat
     }
 }
 
-// The line that says so.
+// The line of a report that says that a line is refused.
 fn refusal_line(alloc: Global, line: u32, why: Refusal) -> Result<Vec<u8>, AllocError>
     ensures { IfOk result (λ text. text.items ≡ refusal_text line why) }
 {
@@ -116,7 +116,7 @@ fn refusal_line(alloc: Global, line: u32, why: Refusal) -> Result<Vec<u8>, Alloc
     Ok(text)
 }
 
-// Runs the group, and writes and leaves its result.
+// Runs the group, writes its journals and catalogues, and leaves its members in `end`.
 fn run_script<R: Threads + Wait + Sync, K: Sink, D: Draws, G: Gate + Sync>(
     rt: &R,
     alloc: Global,
@@ -155,7 +155,7 @@ fn run_script<R: Threads + Wait + Sync, K: Sink, D: Draws, G: Gate + Sync>(
     }
 }
 
-// Runs the members of the group, each with its first draw for every one.
+// Runs the members of the group, where every draw of a member is its first.
 fn run_members<R: Threads + Wait + Sync, D: Draws, G: Gate + Sync>(
     rt: &R,
     alloc: Global,

@@ -44,7 +44,7 @@ fn run_through<R: Threads + Wait + Sync + AllocGlobal + Abort, S: Source, K: Sin
     run_live(rt, rt.alloc(), &words, source, sink, &draws, gate, end)
 }
 
-// Runs with these words. No members are left but by a run that is done.
+// Runs with these words, and expects that members are left exactly where the run is done.
 fn status_of<R: Threads + Wait + Sync + AllocGlobal + Abort, S: Source, K: Sink>(
     rt: &R,
     words: &str,
@@ -57,7 +57,7 @@ fn status_of<R: Threads + Wait + Sync + AllocGlobal + Abort, S: Source, K: Sink>
     answered
 }
 
-// Expects a status and what is written of an input in pieces of so many octets.
+// Expects a status and a text of a run over an input that is read in pieces of `piece` octets.
 fn expect<R: Threads + Wait + Sync + AllocGlobal + Abort>(
     rt: &R,
     words: &str,

@@ -12,7 +12,7 @@ use std::thread::{Threads, yield_now};
 // How often an actor looks whether the others have come, by at most three loads each time.
 const LOOKS: u32 = 33_000_000;
 
-// The members by their numbers, and the actor that publishes and hears. The other two fetch.
+// The numbers of the members, and of a member's actor that publishes and hears. Its other two actors fetch.
 const ALICE: u32 = 0;
 
 const BOB: u32 = 1;

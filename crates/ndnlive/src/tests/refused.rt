@@ -38,7 +38,8 @@ const AFTER: [(&str, u32, &str); 29] = [
     ("settle one", 1, "Syntax"),
 ];
 
-// The same, of the lines that may stand there.
+// Lines of the kinds that a live group has, after the group and its members, each with the number and the word of its
+// refusal.
 const LIVE_LINES: [(&str, u32, &str); 8] = [
     ("group /h", 3, "Duplicate"),
     ("member alice /c 6b33", 3, "Duplicate"),
@@ -50,7 +51,8 @@ const LIVE_LINES: [(&str, u32, &str); 8] = [
     ("publish alice a 10 text:a", 1, "Syntax"),
 ];
 
-// The lines in front of the group's, and after a publication.
+// Inputs that are refused before the group's line, at it, or after a publication, each with the line that is refused
+// and the number and the word of its refusal.
 const ELSEWHERE: [(&str, u32, u32, &str); 5] = [
     ("settle 1\n", 1, 16, "NotLive"),
     ("member alice /alice 6b31\n", 1, 9, "NoGroup"),

@@ -14,7 +14,7 @@ const CATALOGUES: &str = "catalogue alice 1\n\
     entry alice 1 /doc segments 1 octets 3 \
     sha256 ba7816bf8f01cfea414140de5dae2223b00361a396177a9cb410ff61f20015ad\n";
 
-// Expects that an input is done, and how what is written ends.
+// Expects that a run over the input is done, and how the text that is written begins and ends.
 fn expect_end<R: Threads + Wait + Sync + AllocGlobal + Abort>(
     rt: &R,
     input: &str,
