@@ -24,7 +24,8 @@ fn tells(rt: &(impl Abort + AllocGlobal), line: &[u8], answer: &str) {
     same_text(rt, &told, answer);
 }
 
-// Lines of so many octets of one kind and an end: a line's length counts its carriage return and not its line feed.
+// Lines: a beginning, a number of octets of one kind, and an end. A line's length counts its carriage return and not
+// its line feed.
 const LENGTHS: [(&str, usize, u8, &str, &str); 15] = [
     ("", 32_768, b' ', "", "-"),
     ("", 32_768, b' ', "\n", "-"),

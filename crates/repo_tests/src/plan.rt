@@ -53,7 +53,7 @@ fn one_claims_the_record(rt: &impl Abort, plan: &mut Plan) {
     );
 }
 
-// The record counts so many segments. It is held once, and then again.
+// The record, of an object of `segments` segments, is held once, and then again.
 fn hold_record(rt: &impl Abort, plan: &mut Plan, wanted: Part, segments: u16)
     requires is_record { wanted.part ≡ 0 }
     requires free { CanBeHeld plan.old wanted }
@@ -235,7 +235,7 @@ fn wants_of(rt: &(impl Abort + AllocGlobal), others: &[Plan]) {
     lists_held(rt, &plan, &[], (None, 10), &[]);
 }
 
-// Sees that these parts, from a place on and at most so many, are wanted and held by one of the others.
+// Sees that `parts` are the first `most` parts after `after` that are wanted and held by one of the others.
 fn lists_held(
     rt: &(impl Abort + AllocGlobal),
     plan: &Plan,

@@ -48,7 +48,7 @@ impl<'w> Link for OneAttempt<'w> {
     }
 }
 
-// A link that never answers. Whoever asks first waits, for so many looks, until all four parts were asked for.
+// A link that never answers. A worker that asks waits until all four parts were asked for, or its looks are over.
 #[derive(Drop)]
 struct Gate {
     asked: [AtomicBool; 4],
@@ -222,7 +222,7 @@ fn is_expected(outcome: &PhaseOutcome<'_>, published: &Published) -> bool {
     outcome.parts.len() == published.jobs.len()
 }
 
-// A phase of so many workers gives what is expected.
+// A phase of `workers` workers gives what is expected.
 fn phase_is_expected<R: Threads + Sync + Abort + AllocGlobal>(
     rt: &R,
     published: &Published,

@@ -88,7 +88,7 @@ fn index_want(rt: &(impl Abort + AllocGlobal), part: u16, read: &Record, node: &
     want
 }
 
-// Sees that an index packet passes, and lists so many digests and no more.
+// Sees that an index packet passes, and lists exactly `count` digests.
 fn lists(
     rt: &(impl Abort + AllocGlobal),
     want: &Want,
