@@ -2,8 +2,8 @@
 use Rattle.std.specs.Prelude.{◌≡◌, ℕ, ◌<◌, ◌≤◌}
 use Rattle.fetch_board.specs.Seats.{BoardId}
 
--- A board of so many items and tries lies in a table with as many places as words, at least one, and
--- the rule of the table is for as many tries.
+-- A board of `items` items, each of at most `tries` attempts, lies in a table with as many places as words, at least
+-- one, and the rule of the table is for as many attempts.
 pub record IsLaidOut (board : BoardId) (items tries ruled : ℕ) : Type 0 where
   pub even : board.words ≡ board.slots
   pub some : 0 < board.slots

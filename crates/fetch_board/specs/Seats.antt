@@ -80,7 +80,7 @@ module _ {T : Type 0} where
   abbrev pub IsSeatOf : BoardTerms → SeatData T → Type 0
   IsSeatOf b v = (v.board ≡ b.board) × (v.tries ≡ b.tries)
 
-  -- A seat of the board that knows nothing yet and stands for so many.
+  -- A seat of the board that knows nothing yet and stands for `n` seats.
   abbrev pub fresh : BoardTerms → ℕ → SeatData T
   fresh b n =
       record {

@@ -77,7 +77,7 @@ impl<T: Drop> Board<T> {
         Ok((board, dealt))
     }
 
-    // The seat that stands for so many, as so many that stand for one each.
+    // A seat that stands for several, taken apart into seats that stand for one each.
     fn deal(
         &self,
         alloc: Global,

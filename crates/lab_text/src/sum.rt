@@ -6,7 +6,7 @@ use crate::writing::{all_or_nothing, write_line};
 use itoa::Buffer;
 use std::alloc::AllocError;
 
-/// Appends how many of so many lines differ: `same 7` or `differs 1 of 7`, with a line feed. Where memory runs out
+/// Appends how many of `lines` lines differ: `same 7` or `differs 1 of 7`, with a line feed. Where memory runs out
 /// nothing changes.
 pub fn put_sum(out: &mut Vec<u8>, differing: u64, lines: u64) -> Result<(), AllocError>
     ensures { Appends (sum_text differing lines) out.old.items out.new.items result }

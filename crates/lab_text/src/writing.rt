@@ -28,7 +28,7 @@ pub(crate) fn write_marked(out: &mut Vec<u8>, mark: &[u8], octets: &[u8]) -> Res
     Ok(())
 }
 
-// Takes away what was written after so many octets, where memory ran out.
+// Takes away what was written after the first `before` octets, where memory ran out.
 pub(crate) fn all_or_nothing(
     out: &mut Vec<u8>,
     before: usize,

@@ -40,7 +40,7 @@ module _ {T : Type 0} where
   abbrev pub fresh_port : TableId → ℕ → ℕ → PortView T
   fresh_port inbox ports number = record { inbox = inbox; number = number; ports = ports; put = [] }
 
-  -- The first of so many ports, in order of their numbers, which begin at 0.
+  -- The first ports of an inbox of `ports`, in order of their numbers, which begin at 0.
   abbrev pub fresh_ports : TableId → ℕ → ℕ → List (PortView T)
   fresh_ports inbox ports zero = []
   fresh_ports inbox ports (suc number) = fresh_ports inbox ports number ++ fresh_port inbox ports number ∷ []

@@ -61,7 +61,7 @@ module _ {T : Type 0} where
   abbrev pub IsClosing : List (Returned T) → Knowledge T → Type 0
   IsClosing returned v = v ≡ mouth_knows v.ports v.dealt v.taken v.waiting returned
 
-  -- It is the mouth's, before it takes, and so many of the ports were dealt out.
+  -- It is the mouth's, before it takes, and `dealt` of the ports were dealt out.
   pub record IsDealing (ports dealt : ℕ) (v : Knowledge T) : Type 0 where
     pub mouth : v ≡ mouth_knows v.ports dealt [] [] []
     pub ports_known : 0 < dealt → v.ports ≡ ports

@@ -14,7 +14,7 @@ impl PortCount for Brand {
     ghost count = { 0 };
 }
 
-/// The mouth deals out the next of so many ports.
+/// The mouth deals out the next of its `N` ports.
 pub struct Deals<N> {
     count: PhantomData<N>,
 }

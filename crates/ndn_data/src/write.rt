@@ -74,7 +74,7 @@ impl Unsigned<'_> {
         content.saturating_add(around + head_len(types::CONTENT, content))
     }
 
-    // The packet, signed, whose element's value has so many octets.
+    // The packet, signed. Its element's value has `body` octets.
     fn write(&self, alloc: Global, body: usize, key: &[u8]) -> Result<Vec<u8>, AllocError>
         requires long { body ≡ length (unsigned self.now) + 34 }
         requires short { body ≤ packet_limit }

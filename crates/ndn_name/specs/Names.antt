@@ -71,7 +71,7 @@ name_of offset octets = gathered with_component Tlv [] (elements offset octets)
 abbrev pub components : List ℕ → List Component
 components octets = map (λ (e : Item). (e.typ, e.value)) (elements 0 octets).items
 
--- Octets that are the value of a name with so many components.
+-- Octets that are the value of a name with `len` components.
 pub record IsValue (octets : List ℕ) (len : ℕ) : Type 0 where
   pub spelled : octets ≡ encoding (components octets)
   pub name : IsName (components octets)

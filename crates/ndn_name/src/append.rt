@@ -32,7 +32,7 @@ pub(crate) fn append_component(
     Ok(())
 }
 
-// Whether a component of this type with so many octets fits into a name whose value has so many octets.
+// Whether a component of this type whose value has `len` octets fits into a name whose value has `octets`.
 fn has_room(octets: usize, typ: u16, len: usize) -> bool
     requires { octets ≤ NAME_LIMIT }
     ensures { IsTrue result ↔ (octets + (length (head typ len) + len) ≤ NAME_LIMIT) }

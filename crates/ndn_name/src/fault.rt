@@ -75,7 +75,7 @@ impl From<FieldError> for PacketFault {
 /// Why a packet was not written.
 #[derive(Clone, Copy, Debug, PartialEq, Eq, Error)]
 pub enum PacketWriteFault {
-    /// The packet would have so many octets, which is more than 8,800.
+    /// The packet would have `octets` octets, and the most is 8,800.
     #[error("the packet would have {octets} octets")]
     TooLong { octets: usize },
     #[error("out of memory")]

@@ -42,7 +42,7 @@ impl<'p> NameView<'p> {
         Ok(NameView { octets: value, len })
     }
 
-    // The name whose value these octets are, which has so many components.
+    // The name of `len` components whose value these octets are.
     pub(crate) fn of_value(octets: &'p [u8], len: usize) -> NameView<'p>
         requires { IsValue octets.now len }
         ensures { result ≡ components octets.now }

@@ -12,7 +12,7 @@ use Rattle.ndn_packet.specs.Contents.{first_of}
 abbrev pub packet_limit : ℕ
 packet_limit = 8800
 
--- An element must be of the wanted type, and be all of so many octets.
+-- An element must be of the wanted type, and be all of the `len` octets.
 abbrev pub only_of : ℕ → ℕ → Item → Result Item PacketFault
 only_of typ len e =
     if e.typ == typ then (if nat_lt e.end len then Err (TrailingOctets e.end) else Ok e)

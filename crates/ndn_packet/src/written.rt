@@ -11,7 +11,7 @@ use std::alloc::AllocError;
 /// How many octets an element has whose value is a digest or a mac, and whose type takes one octet.
 pub const DIGEST_ELEMENT_LEN: usize = 34;
 
-/// How many octets an element has whose value has so many.
+/// How many octets an element of this type has whose value has `len` octets.
 pub fn element_len(typ: u32, len: usize) -> usize
     requires { len + 18 < 2 ^ 64 }
     ensures exact { result ≡ length (head typ len) + len }

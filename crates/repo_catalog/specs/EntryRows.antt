@@ -8,7 +8,7 @@ pub record Row : Type 0 where
   pub items : List Entry
   pub capacity : ℕ
 
--- The first ones of the vector, so many, are gone.
+-- The first `gone` entries of the vector no longer count.
 abbrev pub row_of : Inside → Row
 row_of i = record { items = drop i.gone i.all.items; capacity = vec_capacity i.all - i.gone }
 

@@ -30,13 +30,13 @@ room_of entries capacity capacity_aside names = record {
   names = names.spare;
 }
 
--- There is room for so many more entries.
+-- There is room for `more` further entries.
 pub record HasRoom (more : ℕ) (r : Room) : Type 0 where
   pub room : more + r.len ≤ r.capacity
   pub room_aside : more + r.len ≤ r.capacity_aside
   pub room_for_names : more ≤ r.names
 
--- No more than so many entries were added, and they took no other room.
+-- At most `more` entries were added, and they took no other room.
 pub record TakesRoom (more : ℕ) (old new : Room) : Type 0 where
   pub len : new.len ≤ old.len + more
   pub room : old.capacity ≤ new.capacity

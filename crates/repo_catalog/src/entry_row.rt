@@ -58,7 +58,7 @@ impl EntryRow {
         self.all.capacity() - self.gone
     }
 
-    // Reserves capacity for so many more.
+    // Reserves capacity for `n` more entries.
     pub(crate) fn reserve(&mut self, n: usize) -> Result<(), AllocError>
         ensures items { self.new.items ≡ self.old.items }
         ensures grows { self.old.capacity ≤ self.new.capacity }
@@ -144,7 +144,7 @@ fn take_out(all: &mut Vec<Entry>, gone: &mut usize, place: usize)
     all.remove(*gone + place);
 }
 
-// The first entries, so many, were removed, and are dropped now.
+// Drops the first `gone` entries, which were removed before.
 fn close(all: &mut Vec<Entry>, gone: &mut usize)
     requires { gone.old ≤ length all.old.items }
     ensures items { all.new.items ≡ drop gone.old all.old.items }

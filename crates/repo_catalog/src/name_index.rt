@@ -24,9 +24,9 @@ pub(crate) type Key = (u64, (u32, u32));
 pub(crate) struct NameIndex {
     map: SortedMap<Key, ()>,
     waiting: Vec<(u32, u16)>,
-    // There is capacity for so many more that wait.
+    // How many more can wait without another allocation.
     spare: usize,
-    // There is capacity for so many more keys.
+    // How many more keys there is capacity for.
     room: usize,
     // An entry was removed, so that room is made for the keys of all that wait.
     orders: bool,
@@ -60,7 +60,7 @@ impl NameIndex {
         }
     }
 
-    // Reserves capacity for so many more publications to wait, and for the keys of all if an entry was removed.
+    // Reserves capacity for `n` more publications to wait, and for the keys of all if an entry was removed.
     pub(crate) fn reserve(&mut self, n: usize) -> Result<(), AllocError>
         ensures keys { self.new.keys ≡ self.old.keys }
         ensures waiting { self.new.waiting ≡ self.old.waiting }

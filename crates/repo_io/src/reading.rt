@@ -10,7 +10,7 @@ use std::alloc::Global;
 // How many octets are asked for at once.
 const CHUNK: usize = 4096;
 
-/// Reads to the end, or until there are so many octets.
+/// Reads to the end, or until there are `most` octets.
 pub fn read_up_to<S: Source>(
     alloc: Global,
     source: &mut S,
@@ -34,7 +34,7 @@ pub fn read_up_to<S: Source>(
     Ok(octets)
 }
 
-// Reads as many octets as one call gives, and returns how many. There is capacity for so many.
+// Reads as many octets as one call gives, and returns how many. There is capacity for `room`.
 fn read_some<S: Source>(
     source: &mut S,
     octets: &mut Vec<u8>,

@@ -3,7 +3,7 @@ ghost use Rattle.repo_io.specs.Outside.{GainsText, HasRisen};
 
 use crate::sink::Sink;
 
-/// A text was not written whole: so many octets of it were, and the next was not.
+/// A text was not written whole: its first `written` octets were, and the next was not.
 #[derive(Clone, Copy, Debug, PartialEq, Eq)]
 pub struct WriteFault {
     pub written: usize,

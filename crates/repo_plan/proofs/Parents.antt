@@ -33,7 +33,7 @@ by_index shape k i from to =
     let place = by_place shape i (omega arith) in
     (λ e. (omega (arith, place, e), omega (arith, place, e)), λ h. omega (arith, place, h.0, h.1))
 
--- so many segments fill all index packets but the last, and none but these
+-- the segments of a shape fill all its index packets but the last, and no further one
 module _ (shape : Shape) (is : IsShape shape) (some : 1 ≤ shape.index) where
   filled : (most_listed * (shape.index - 1) < shape.segments) × (shape.segments ≤ most_listed * shape.index)
   filled = go (nat_le shape.segments most_listed) refl where

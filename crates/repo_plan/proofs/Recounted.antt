@@ -66,7 +66,7 @@ module _ (p : PlanState) (pair : Pair) where
 
 -- ---- a number goes up
 
--- the records of so many publications
+-- the records of `n` publications of a publisher, from one number on
 abbrev records : ℕ → ℕ → ℕ → List Part
 records publisher first n = map (λ seq. part_of (publisher, seq) 0) (numbers_from first n)
 

@@ -40,7 +40,7 @@ pub struct Plan {
     // How many parts are held, and how many are wanted.
     held_count: u64,
     wanted_count: u64,
-    // There is capacity for so many more in each of the four.
+    // How many more parts there is capacity for in each of the four.
     spare: usize,
 }
 
@@ -74,7 +74,7 @@ impl Model for Plan {
 }
 
 impl Plan {
-    /// A plan for a group of so many members, which knows of nothing.
+    /// A plan for a group of `members` members, which knows of no publication.
     pub fn new(alloc: Global, members: usize) -> Result<Plan, AllocError>
         ensures { IfOk result (λ plan. plan ≡ initial_plan members) }
     {

@@ -20,7 +20,7 @@ pub struct Shape {
 const MOST_LISTED: u16 = 200;
 
 impl Shape {
-    /// The shape of a publication of so many segments.
+    /// The shape of a publication by its number of segments.
     pub fn of(segments: u16) -> Shape
         requires { segments ≤ most_segments }
         ensures sized { IsShape result }

@@ -115,7 +115,7 @@ later_part pair t u t_inside u_inside le other = go (part_cmp t u) refl le where
   go Equal e h = absurd (other (sym (exact_parts.same t u e)))
   go Greater e h = absurd cc
 
--- the first part that is left goes: by its number, so many at most went before it
+-- the first part that is left goes: at most as many went before it as its number says
 pub dropping_more : (pair : Pair) (old now new : PacketTableState) (x : Stored) → is_in pair x.0 ≡ true
     → x.0.part < 65536
     → Rises part_cmp (keys now.held) → first_from part_cmp (first_of pair) now.held ≡ Some x

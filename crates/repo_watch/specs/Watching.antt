@@ -8,7 +8,7 @@ use Rattle.repo_catalog.specs.Entries.{publication_of}
 use Rattle.repo_watch.specs.declared.pattern.Pattern.{Pattern}
 use Rattle.repo_watch.specs.Patterns.{accepts}
 
--- A member has at most so many watchers.
+-- The greatest number of watchers of a member.
 abbrev pub most_watchers : ℕ
 most_watchers = 16
 

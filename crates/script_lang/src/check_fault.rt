@@ -12,7 +12,7 @@ pub enum CheckFault {
     UnknownLabel,
     #[error("declared before")]
     Duplicate,
-    #[error("too many members or clients")]
+    #[error("too many members, clients or mirrors")]
     Limit,
     #[error("a total is passed")]
     TooLarge,

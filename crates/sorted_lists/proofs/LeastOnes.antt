@@ -103,7 +103,7 @@ module _ {A K : Type 0} {R : K → K → Ordering} (e : Exact R) (key : A → K)
   lesser_none None = refl
   lesser_none (Some a) = refl
 
-  -- one by one: what is first among so many, and one more
+  -- one by one: the first of `i` elements, and then of one more
   pub first_more : (xs : List A) (test : A → Bool) (i : ℕ) (d : A) (r : Option A) → i < length xs
       → test (get_or xs i d) ≡ true → IsFirstThat R key (take i xs) test r
       → IsFirstThat R key (take (i + 1) xs) test (lesser_by R key r (Some (get_or xs i d)))

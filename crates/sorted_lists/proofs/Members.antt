@@ -147,7 +147,7 @@ module _ {A : Type 0} where
         in_filter p xs x (s.back x r.0) (agree x r.0 ∙ r.1);
   }
 
-  -- where one more of some comes to others, they have those and so many of these
+  -- the old ones and the first `i` of more, to which the next of these comes
   pub same_taken : (old more : List A) (i : ℕ) (d : A) {now next : List A} → i < length more
       → HaveSame next (get_or more i d ∷ now) → HaveSame now (old ++ take i more)
       → HaveSame next (old ++ take (i + 1) more)

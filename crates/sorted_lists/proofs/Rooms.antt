@@ -12,7 +12,7 @@ module _ {K V A : Type 0} where
   over_prefix b [] l = absurd (omega arith)
   over_prefix b (c ∷ bs) l = refl
 
-  -- a block has so many more entries at most
+  -- a block changes, and has at most `n` entries more
   pub over_more : (bs : List (Vec (K × V) A)) (i n : ℕ) (c d : Vec (K × V) A) → i < length bs
       → length c.items ≤ length (get_or bs i d).items + n → over (set bs i c) ≤ over bs + n
   over_more [] i n c d l h = absurd (omega arith)

@@ -9,11 +9,11 @@ use Rattle.std.specs.declared.cmp.Ordering.TheVariants.{Less}
 use Rattle.sorted_lists.specs.declared.block_map.BlockMap.{BlockMap}
 use Rattle.sorted_lists.specs.SortedList.{keys, IsBefore, Rises, last_up_to}
 
--- a block is split at so many entries
+-- the number of entries at which a block is split
 abbrev pub full : ℕ
 full = 64
 
--- so many of them stay
+-- how many of them stay in it
 abbrev pub half : ℕ
 half = 32
 
@@ -39,9 +39,9 @@ module _ {K V A : Type 0} where
   above_half [] = 0
   above_half (b ∷ bs) = (length b.items - half) + above_half bs
 
-  -- for how many more entries there is room in these blocks with so many empty ones to split them: none where there is
-  -- no block. An entry takes one empty block at most, and when half a block of entries came beyond what was over, at
-  -- most one was taken for them
+  -- for how many more entries there is room in these blocks, by the number of empty ones to split them: none where
+  -- there is no block. An entry takes one empty block at most, and when half a block of entries came beyond what was
+  -- over, at most one was taken for them
   abbrev pub room : List (Vec (K × V) A) → ℕ → ℕ
   room [] n = 0
   room (b ∷ bs) n = max n (half * n - over (b ∷ bs))

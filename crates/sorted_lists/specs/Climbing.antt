@@ -11,7 +11,7 @@ module _ {A K : Type 0} (R : K → K → Ordering) (key : A → K) where
   Climbs [] = Unit {0}
   Climbs (x ∷ xs) = ((y : A) → In y xs → is_le (R (key x) (key y)) ≡ true) × Climbs xs
 
-  -- so many come before this key
+  -- the number of elements before this key is `place`
   pub record IsPlaceOf (xs : List A) (k : K) (place : ℕ) : Type 0 where
     pub within : place ≤ length xs
     pub before : (x : A) → In x (take place xs) → R (key x) k ≡ Less

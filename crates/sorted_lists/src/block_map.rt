@@ -6,10 +6,10 @@ ghost use Rattle.sorted_lists.specs.BlockMap.{IsMap, IsPlace, StaysInSplit, abov
 use crate::block;
 use std::alloc::{AllocError, Global};
 
-// A block that has so many entries is split in two.
+// The number of entries at which a block is split in two.
 const FULL: usize = 64;
 
-// So many of them stay, unless the last was appended to the map.
+// How many of them stay, unless the last was appended to the map.
 const HALF: usize = 32;
 
 // There are fewer blocks than this, so that their entries can be counted.
@@ -35,7 +35,7 @@ impl<K: Ord + Copy, V: Copy> BlockMap<K, V> {
         }
     }
 
-    // Reserves capacity for so many more entries. Each takes one empty block at most. Where many come, the blocks are
+    // Reserves capacity for `n` more entries. Each takes one empty block at most. Where many come, the blocks are
     // split for each `HALF` entries that stand above half a block, and then at every `HALF` further entries.
     pub fn reserve(&mut self, n: usize) -> Result<(), AllocError>
         requires { IsMap K.cmp self.old }
@@ -69,7 +69,7 @@ impl<K: Ord + Copy, V: Copy> BlockMap<K, V> {
         Ok(())
     }
 
-    // Sees that there are so many empty blocks, and room to place them.
+    // Sees that there are `wanted` empty blocks, and room to place them.
     fn add_spare(&mut self, wanted: usize) -> Result<(), AllocError>
         requires { IsMap K.cmp self.old }
         ensures blocks { self.new.blocks.items ≡ self.old.blocks.items }

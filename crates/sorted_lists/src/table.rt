@@ -9,7 +9,7 @@ use std::alloc::AllocError;
 use std::collections::HashMap;
 use std::hash::Hash;
 
-/// Reserves capacity for so many more entries.
+/// Reserves capacity for `n` more entries.
 pub fn reserve<K: Ord + Hash, V>(map: &mut HashMap<K, V>, n: usize) -> Result<(), AllocError>
     requires { IsExact K.cmp }
     ensures entries { in_order K.cmp map.new.entries ≡ in_order K.cmp map.old.entries }

@@ -34,7 +34,7 @@ head_short typ len = omega (arith, length-append (number typ) (number len), numb
 pub element_short : (typ : ℕ) (value : List ℕ) → length (element typ value) ≤ length value + 18
 element_short typ value = omega (arith, length-element typ value, head_short typ (length value))
 
--- ---- entries whose names have so many octets at most
+-- ---- entries whose names have at most `most` octets
 
 abbrev pub IsWithin : ℕ → List Component → Type 0
 IsWithin most name = length (encoding name) ≤ most

@@ -26,7 +26,7 @@ impl Model for Vector {
 }
 
 impl Vector {
-    /// The vector of a group of so many members of which nothing is known.
+    /// The vector of a group of `members` members before anything is known: a zero for each.
     pub fn new(alloc: Global, members: usize) -> Result<Vector, AllocError>
         ensures { IfOk result (λ v. v ≡ replicate members 0) }
     {

@@ -27,7 +27,7 @@ impl Model for VectorNumbers {
 }
 
 impl VectorNumbers {
-    // The first numbers, of so many members.
+    // The first numbers, one for each of `members` members.
     pub(crate) fn new(numbers: [u16; MEMBER_LIMIT], members: usize) -> VectorNumbers
         requires { members ≤ MEMBER_LIMIT }
         ensures { result ≡ take members numbers }

@@ -22,7 +22,7 @@ pub(super) fn note_shape(
     }
 }
 
-// Notes that a part is held, by its number in its publication, which has so many parts besides its record.
+// Notes that a part is held, by its number in its publication, which has `last_number` parts besides its record.
 //
 // Of a publication that is held whole its own number alone is kept.
 pub(super) fn note_held(
