@@ -105,6 +105,17 @@ impl Catalogue {
         Ok(())
     }
 
+    /// Puts the names of all entries into the index by which `first_named` and `named` find them, and reserves capacity
+    /// for those of the entries that may come, so that looking up a name reads no entry of another. It changes only
+    /// what a look-up costs.
+    pub fn index_names(&mut self) -> Result<(), AllocError>
+        ensures { self.new ≡ self.old }
+    {
+        self.names.reserve_keys()?;
+        self.order_names();
+        Ok(())
+    }
+
     /// Adds an entry as `add` does, within the capacity reserved for one, which is used up even where the answer is
     /// `false`. It allocates nothing.
     pub fn add_reserved(&mut self, entry: Entry) -> bool

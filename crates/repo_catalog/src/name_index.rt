@@ -78,7 +78,7 @@ impl NameIndex {
     }
 
     // Reserves capacity for the keys of all that wait, and of as many more as may wait.
-    fn reserve_keys(&mut self) -> Result<(), AllocError>
+    pub(crate) fn reserve_keys(&mut self) -> Result<(), AllocError>
         ensures keys { self.new.keys ≡ self.old.keys }
         ensures waiting { self.new.waiting ≡ self.old.waiting }
         ensures spare { self.new.spare ≡ self.old.spare }

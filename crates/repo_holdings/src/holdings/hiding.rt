@@ -16,6 +16,13 @@ use repo_plan::Plan;
 use std::alloc::AllocError;
 
 impl Holdings {
+    /// Has the catalogue look up names by an index from now on. It changes only what a look-up costs.
+    pub fn index_names(&mut self) -> Result<(), AllocError>
+        ensures { self.new ≡ self.old }
+    {
+        self.catalogue.index_names()
+    }
+
     /// These publications, which are in order, are hidden for good: none of their packets is held or listed any more,
     /// and none of their parts is wanted. The capacity that was reserved stays.
     ///

@@ -163,6 +163,7 @@ impl Member {
         ensures ok { OnOk result (self.new ≡ member_deletes name.now self.old) }
         ensures err { OnErr result (self.new ≡ self.old) }
     {
+        self.index_names()?;
         let found = self.found(name)?;
         if found.publications.is_empty() {
             return self.answered(g, octets, Answer::only(NOT_FOUND));
@@ -174,6 +175,13 @@ impl Member {
         let answered = self.answered(g, octets, answer)?;
         self.held.hide_all(&found.publications)?;
         Ok(answered)
+    }
+
+    // Names are looked up by an index from now on, so that a deletion reads no entry of another name.
+    fn index_names(&mut self) -> Result<(), AllocError>
+        ensures { self.new ≡ self.old }
+    {
+        self.held.index_names()
     }
 
     // The catalogued publications of the objects of a name, in order. They aren't withdrawals, and their parts are

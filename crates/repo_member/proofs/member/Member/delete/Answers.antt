@@ -12,7 +12,8 @@ pub hide_all-requires-clause-unclaimed : goal.hide_all-requires-clause-unclaimed
 hide_all-requires-clause-unclaimed c =
     let claims = ap (λ (a : MemberState). a.claims) c.self.view_is in
     let each =
-    subst (All (λ (pair : Pair). claims_part_in (member_plan c.args.self.now) pair ≡ false)) (sym c.deref.ensures.value)
+    subst (All (λ (pair : Pair). claims_part_in (member_plan c.index_names.new.self) pair ≡ false))
+    (sym c.deref.ensures.value)
     c.in_ok-found.ensures.unclaimed in
     λ k d low.
     ap (λ (cs : List (Option Part)). list_any (is_claim_in (get_or c.deref.result.now k d)) cs) claims ∙ each k d low
@@ -24,7 +25,7 @@ hide_all-requires-clause-in_order c =
 pub invariant_of-self-2 : goal.invariant_of-self-2
 invariant_of-self-2 c =
     let known =
-    subst (All (λ (pair : Pair). knows (member_plan c.args.self.now) pair ≡ true)) (sym c.deref.ensures.value)
+    subst (All (λ (pair : Pair). knows (member_plan c.index_names.new.self) pair ≡ true)) (sym c.deref.ensures.value)
     c.in_ok-found.ensures.known in
     hidden_is c.self.inside _ c.deref.result.now c.self.invariant refl refl refl refl refl
     c.in_ok-hide_all.ensures.ok c.hide_all.ensures.in_order
