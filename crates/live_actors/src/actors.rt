@@ -38,9 +38,9 @@ pub fn act<L: Lists, R: Wait, P: Places<L>>(
     Ok(())
 }
 
-/// The actor that publishes for a member does so until `publish_next` answers `None`. It puts the sync Interest of each
-/// publication into the inboxes of all other members. After each, the member hears sync Interests from its own inbox.
-pub fn publish<L: Lists, R: Wait, P: Places<L>>(
+// The actor that publishes for a member does so until `publish_next` answers `None`. It puts the sync Interest of each
+// publication into the inboxes of all other members. After each, the member hears sync Interests from its own inbox.
+fn publish<L: Lists, R: Wait, P: Places<L>>(
     rt: &R,
     places: &mut P,
     members: u32,
@@ -109,9 +109,9 @@ fn hear_some<L: Lists, P: Places<L>>(places: &mut P, member: u32) -> Result<(), 
     Ok(())
 }
 
-/// A fetcher makes `turns` turns. Each begins with a claim. If a part is claimed, its publisher is asked to lend the
-/// packet, and the claim ends with `accept`, or with `lose` if nothing was lent.
-pub fn fetch<L: Lists, P: Places<L>>(
+// A fetcher makes `turns` turns. Each begins with a claim. If a part is claimed, its publisher is asked to lend the
+// packet, and the claim ends with `accept`, or with `lose` if nothing was lent.
+fn fetch<L: Lists, P: Places<L>>(
     places: &mut P,
     member: u32,
     f: u8,

@@ -10,6 +10,6 @@ mod noted;
 mod places;
 
 pub use actor::Actor;
-pub use actors::{act, fetch, publish};
+pub use actors::act;
 pub use noted::Noted;
 pub use places::Places;

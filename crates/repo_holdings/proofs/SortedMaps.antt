@@ -1,13 +1,16 @@
 -- Maps in order: two that have the same values are one; and maps that are made of others.
 use Rattle.std.proofs.Common.{◌≡◌, Bool, true, false, cond, ◌||◌, List, [], ◌∷◌, refl, sym, ap, ◌∙◌, Option, Some, None}
-use Rattle.std.proofs.Common.{is_some}
+use Rattle.std.proofs.Common.{is_some, not}
+use Rattle.std.specs.List.{filter}
+use Rattle.std.specs.Map.{lookup}
 use Rattle.std.specs.Option.{option_and_then}
 use Rattle.std.specs.Ordering.{eq_by_cmp, is_eq}
 use Rattle.std.specs.declared.cmp.Ordering.{Ordering}
 use Rattle.std.specs.declared.cmp.Ordering.TheVariants.{Less, Equal, Greater}
-use Rattle.sorted_lists.specs.SortedList.{keys, contains, IsBefore, Rises, value_of}
+use Rattle.sorted_lists.specs.SortedList.{keys, contains, in_order, IsBefore, Rises, value_of}
 use Rattle.sorted_lists.proofs.Orders.{Exact, greater_back}
-use Rattle.sorted_lists.proofs.Sets.{before_more, eq_same, eq_itself}
+use Rattle.sorted_lists.proofs.Entries.{order_rises, value_in_order}
+use Rattle.sorted_lists.proofs.Sets.{before_more, eq_same, eq_itself, rises_keys_filter, value_of-filter}
 use Rattle.repo_holdings.specs.KeptValues.{with_kept, kept_values}
 
 -- a key is in a map exactly where it has a value
@@ -117,3 +120,19 @@ module _ {K : Type 0} {R : K → K → Ordering} (e : Exact R) where
           ap (λ (q : K). value_of R (with_kept x.0 (f q x.1) (kept_values f es)) k) (sym same)
           ∙ here same (f k x.1) refl
       go h false p = later (f x.0 x.1) p ∙ h
+
+-- a hash map in order of its keys, once one key has nothing
+module _ {K V : Type 0} {R : K → K → Ordering} (e : Exact R) (eq : K → K → Bool)
+    (ties : (x y : K) → eq x y ≡ eq_by_cmp R x y) (es fs : List (K × V)) where
+  pub unset_in_order : (k : K) → ((q : K) → lookup (eq q) fs ≡ cond (eq k q) None (lookup (eq q) es))
+      → in_order R fs ≡ filter (λ x. not (eq_by_cmp R k x.0)) (in_order R es)
+  unset_in_order k h =
+      same_map e (in_order R fs) (filter (λ x. not (eq_by_cmp R k x.0)) (in_order R es)) (order_rises e fs)
+      (rises_keys_filter e (λ q. not (eq_by_cmp R k q)) (in_order R es) (order_rises e es)) (λ q.
+      value_in_order e eq ties fs q ∙ h q
+      ∙ (λ i. cond (ties k q i) None (sym (value_in_order e eq ties es q) i))
+      ∙ flipped (eq_by_cmp R k q) (value_of R (in_order R es) q)
+      ∙ sym (value_of-filter e (λ z. not (eq_by_cmp R k z)) (in_order R es) q)) where
+        flipped : (b : Bool) (o : Option V) → cond b None o ≡ cond (not b) o None
+        flipped true o = refl
+        flipped false o = refl

@@ -1,4 +1,4 @@
-ghost use Rattle.std.specs.Prelude.{◌≡◌, ◌<◌, ◌≤◌, IfOk, length};
+ghost use Rattle.std.specs.Prelude.{◌≡◌, ◌<◌, ◌≤◌, length};
 ghost use Rattle.ndn_name.specs.Names.{encoding};
 ghost use Rattle.repo_plan.specs.Parts.{IsShape, shape_of_segments};
 ghost use Rattle.repo_object.specs.Limits.{node_name_limit};
@@ -7,10 +7,9 @@ ghost use Rattle.repo_object.specs.Wants.{listed_in, IsListedIndex, want_index, 
 
 use crate::digests_view::DigestsView;
 use crate::expected::Expected;
-use crate::want::{Want, listed_in};
+use crate::want::listed_in;
 use ndn_name::{Name, NameView};
 use repo_plan::{Part, Shape};
-use std::alloc::{AllocError, Global};
 use std::marker::Model;
 
 /// What the record of an object lists, in borrowed octets: the object's name, how many segments it has, and digests, of
@@ -103,35 +102,5 @@ impl<'p> ListingView<'p> {
         ensures { result ≡ want_segment part (shape_of_segments self.now.segments) self.now.name digest.now }
     {
         Expected::of_segment(part, self.shape(), &self.name, digest)
-    }
-
-    /// The want of the index packet `part`, which the record lists, of a publication by `node` in `group`.
-    pub fn want_index(
-        &self,
-        alloc: Global,
-        part: Part,
-        node: &Name,
-        group: &Name,
-    ) -> Result<Want, AllocError>
-        requires listed { IsListedIndex part self.now }
-        requires node { length (encoding node.now) ≤ node_name_limit }
-        requires group { length (encoding group.now) ≤ node_name_limit }
-        ensures { IfOk result (λ want. want ≡ want_index part self.now node.now group.now) }
-    {
-        self.index(part, node, group).to_want(alloc)
-    }
-
-    /// The want of the segment `part`, whose digest the record or an index packet lists.
-    pub fn want_segment(
-        &self,
-        alloc: Global,
-        part: Part,
-        digest: &[u8; 32],
-    ) -> Result<Want, AllocError>
-        requires segment { (shape_of_segments self.now.segments).index < part.part }
-        ensures { IfOk result (λ want. want
-            ≡ want_segment part (shape_of_segments self.now.segments) self.now.name digest.now) }
-    {
-        self.segment(part, digest).to_want(alloc)
     }
 }

@@ -105,7 +105,7 @@ impl<P: Ord + Copy> Runs<P> {
         self.map.insert(first, last);
     }
 
-    /// The set has no number of the thing from now on. Takes as many look-ups as the thing has runs.
+    /// The set has no number of the thing from now on. Takes a look-up and a removal for each run of the thing.
     pub fn remove_all(&mut self, thing: P)
         ensures set { IsRuns P.cmp self.new.runs }
         ensures numbers { (q : Number P) → has_number P.cmp self.new q

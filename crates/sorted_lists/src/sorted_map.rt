@@ -100,11 +100,4 @@ impl<K: Ord + Copy, V: Copy> SortedMap<K, V> {
     {
         self.map.remove(key);
     }
-
-    /// The keys rise, so each stands once. Costs nothing, and is called for its clause.
-    pub fn is_in_order(&self)
-        ensures { Rises K.cmp (keys self.now.entries) }
-    {
-        let _ = &self.map;
-    }
 }

@@ -1,8 +1,6 @@
 //! Hash maps with reserved capacity, seen as their entries in order of the keys.
-ghost use Rattle.std.specs.Prelude.{◌≡◌, ◌+◌, ◌<◌, ◌≤◌, not, length, OnOk};
-ghost use Rattle.std.specs.List.{filter};
+ghost use Rattle.std.specs.Prelude.{◌≡◌, ◌+◌, ◌<◌, ◌≤◌, OnOk};
 ghost use Rattle.std.specs.HashMap.{spare};
-ghost use Rattle.std.specs.Ordering.{eq_by_cmp};
 ghost use Rattle.sorted_lists.specs.SortedList.{IsExact, in_order, value_of, with_value};
 
 use std::alloc::AllocError;
@@ -17,14 +15,6 @@ pub fn reserve<K: Ord + Hash, V>(map: &mut HashMap<K, V>, n: usize) -> Result<()
     ensures kept { spare map.old ≤ spare map.new }
 {
     map.reserve(n)
-}
-
-/// How many entries there are.
-pub fn len<K: Ord + Hash, V>(map: &HashMap<K, V>) -> usize
-    requires { IsExact K.cmp }
-    ensures { result ≡ length (in_order K.cmp map.now.entries) }
-{
-    map.len()
 }
 
 /// What the map has under the key.
@@ -46,14 +36,4 @@ pub fn set_value<K: Ord + Hash + Drop, V: Drop>(map: &mut HashMap<K, V>, key: K,
 {
     let replaced: Result<_, _> = map.insert(key, value);
     replaced.unwrap();
-}
-
-/// The map has nothing under the key.
-pub fn remove<K: Ord + Hash + Drop, V: Drop>(map: &mut HashMap<K, V>, key: K)
-    requires { IsExact K.cmp }
-    ensures entries { in_order K.cmp map.new.entries
-        ≡ filter (λ e. not (eq_by_cmp K.cmp key e.0)) (in_order K.cmp map.old.entries) }
-    ensures room { spare map.old ≤ spare map.new }
-{
-    map.remove(&key);
 }

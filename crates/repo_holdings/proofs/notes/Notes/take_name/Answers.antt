@@ -3,12 +3,13 @@ use Rattle.std.specs.Prelude.{filter, not}
 use Rattle.std.specs.Ordering.{eq_by_cmp}
 use Rattle.ndn_name.specs.Names.{Component}
 use Rattle.sorted_lists.specs.SortedList.{keys, value_of}
-use Rattle.sorted_lists.proofs.Entries.{value_in_order, unset_in_order}
+use Rattle.sorted_lists.proofs.Entries.{value_in_order}
 use Rattle.sorted_lists.proofs.Sets.{eq_turned}
 use Rattle.repo_plan.specs.Parts.{Pair, pair_cmp}
 use Rattle.repo_plan.proofs.Orders.{exact_pairs}
 use Rattle.repo_plan.proofs.Changes.{pair_test}
 use Rattle.repo_holdings.specs.Noted.{NotesState}
+use Rattle.repo_holdings.proofs.SortedMaps.{unset_in_order}
 use Rattle.repo_holdings.proofs.notes.Notes.take_name.Goals as goal
 
 pub returns-clause-name : goal.returns-clause-name
