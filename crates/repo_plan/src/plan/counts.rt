@@ -37,8 +37,9 @@ impl Plan {
         }
     }
 
-    // How many parts of the publication are wanted.
-    pub(super) fn wanted_in(&self, publisher: u32, seq: u16) -> u32
+    // How many parts of the publication, of which `held` are held, are wanted.
+    pub(super) fn wanted_in(&self, publisher: u32, seq: u16, held: u32) -> u32
+        requires { held ≡ length (filter (is_in (publisher, seq)) self.now.held) }
         ensures { result ≡ length (filter (is_in (publisher, seq)) (wanted self.now)) }
     {
         let publication = (publisher, seq);
@@ -47,11 +48,12 @@ impl Plan {
         }
         match self.shape(publisher, seq) {
             None => 1,
-            Some(shape) => self.listed_in(publication, shape) - self.held_in(publisher, seq),
+            Some(shape) => self.listed_in(publication, shape) - held,
         }
     }
 
-    // How many parts of a publication can be asked for or are held. One look-up for each part that lists others.
+    // How many parts of a publication can be asked for or are held. Looks up each part that lists others, and no
+    // other.
     fn listed_in(&self, publication: (u32, u16), shape: Shape) -> u32
         requires known { knows self.now publication ≡ true }
         requires shape { shape_of self.now publication ≡ Some shape }
@@ -88,7 +90,7 @@ impl Plan {
     }
 }
 
-// How many numbers of a thing, from `first` on and less than `end`, the set has. Two look-ups for each run.
+// How many numbers of a thing, from `first` on and less than `end`, the set has. Three look-ups for each run.
 fn count_in<P: Ord + Copy>(set: &Runs<P>, thing: P, first: u32, end: u32) -> u32
     requires { end ≤ 65536 }
     ensures { result ≡ how_many (λ n. has_number P.cmp set.now (thing, n)) first (end - first) }

@@ -33,7 +33,7 @@ impl HasParts for Plan {
 }
 
 impl Plan {
-    /// The least held part that is not below this one. Four look-ups.
+    /// The least held part that is not below this one. Takes a few look-ups, however many parts are held.
     pub fn held_from(&self, part: Part) -> Option<Part>
         ensures list { result ≡ first (filter (is_from part) self.now.held) }
         ensures least { IsLeastFrom (holds self.now) part result }
@@ -50,8 +50,8 @@ impl Plan {
     /// The least wanted parts that no fetcher claims, that are greater than `after` and that one of the others holds,
     /// in order, at most `most` of them.
     ///
-    /// Takes look-ups for each part that it lists and for each run that it passes, and none for a part that nobody
-    /// holds.
+    /// Takes look-ups for each part that it lists and for each run that it passes, of its own parts and of theirs, and
+    /// none for each part that nobody holds.
     pub fn wanted_held_after<H: HasParts>(
         &self,
         alloc: Global,

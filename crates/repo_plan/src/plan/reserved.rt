@@ -79,7 +79,7 @@ impl Plan {
     {
         let publication = (publisher, seq);
         let held = self.held_in(publisher, seq);
-        let wanted = self.wanted_in(publisher, seq);
+        let wanted = self.wanted_in(publisher, seq, held);
         self.spare -= 1;
         self.held_count -= u64::from(held);
         self.wanted_count -= u64::from(wanted);

@@ -42,7 +42,7 @@ overflow_sub-result c =
     let listed =
     ap (λ (p : PlanState). how_many (λ x. may_be_asked_for p (part_of pair x)) 0 (last_part n + 1)) c.self.view_is in
     let held = ap (λ (p : PlanState). length (filter (is_in pair) p.held)) c.self.view_is in
-    omega (arith, all, listed, held, c.listed_in.ensures, c.held_in.ensures)
+    omega (arith, all, listed, held, c.listed_in.ensures, c.requires)
 
 pub returns-in-Some : goal.returns-in-Some
 returns-in-Some c =
@@ -57,4 +57,4 @@ returns-in-Some c =
     ap (λ (p : PlanState). how_many (λ x. may_be_asked_for p (part_of pair x)) 0 (last_part n + 1)) c.self.view_is in
     let held = ap (λ (p : PlanState). length (filter (is_in pair) p.held)) c.self.view_is in
     let want = ap (λ (p : PlanState). length (filter (is_in pair) (wanted p))) c.self.view_is in
-    omega (arith, all, listed, held, want, c.listed_in.ensures, c.held_in.ensures)
+    omega (arith, all, listed, held, want, c.listed_in.ensures, c.requires)
