@@ -7,18 +7,21 @@ use Rattle.repo_plan.specs.Plan.{hides, unclaimed, is_unclaimed, is_after}
 use Rattle.repo_holdings.specs.HoldingsState.{HoldingsState, held_plan}
 use Rattle.repo_holdings.specs.Taking.{Fetched}
 use Rattle.group_model.specs.Publications.{Logs}
+use Rattle.group_model.specs.Steps.{job_limit}
 use Rattle.repo_member.specs.Groups.{GroupKeys}
 use Rattle.repo_member.specs.MemberState.{MemberState}
 use Rattle.bench_world.specs.Lending.{lent, lends}
 use Rattle.bench_world.specs.Holders.{HolderPredicates, has}
 
--- The parts of the next phase of a fetch: the least 4,096 wanted and unclaimed parts that are after `after`.
+-- The parts of the next phase of a fetch: the least wanted and unclaimed parts that are after `after`,
+-- at most `job_limit`.
 abbrev pub next_parts : Option Part → HoldingsState → List Part
-next_parts after h = take 4096 (filter (is_after after) (unclaimed (held_plan h)))
+next_parts after h = take job_limit (filter (is_after after) (unclaimed (held_plan h)))
 
--- The parts of the next phase of a settle: the least 4,096 wanted and unclaimed parts after `after` that `others` lend.
+-- The parts of the next phase of a settle: the least wanted and unclaimed parts after `after` that `others`
+-- lend, at most `job_limit`.
 abbrev pub next_lent : List MemberState → Option Part → HoldingsState → List Part
-next_lent others after h = take 4096 (filter (lends others) (filter (is_after after) (unclaimed (held_plan h))))
+next_lent others after h = take job_limit (filter (lends others) (filter (is_after after) (unclaimed (held_plan h))))
 
 -- The result of a part in a phase of a settle, in which no attempt is counted.
 abbrev pub lent_one : List MemberState → Part → Fetched

@@ -8,6 +8,7 @@ use Rattle.repo_plan.specs.Parts.{part_cmp, pair_of}
 use Rattle.repo_plan.specs.Plan.{wanted}
 use Rattle.group_model.specs.Member.{tries_of, with_each_tried}
 use Rattle.group_model.specs.World.{World, logs, someone_holds}
+use Rattle.group_model.specs.Steps.{job_limit}
 use Rattle.repo_mirror.specs.Asked.{is_for}
 use Rattle.repo_mirror.specs.Mirrors.{mirror_plan, mirror_holds, IsWantedByMirror}
 use Rattle.repo_mirror.specs.MirrorState.{MirrorState}
@@ -17,9 +18,9 @@ use Rattle.repo_mirror.specs.ConsistentMirrors.{mirror_in_group}
 abbrev pub mirror_wants : World → MirrorState → List Part
 mirror_wants w m = wanted (mirror_plan m.pattern (logs w) (mirror_in_group m))
 
--- The parts that a mirror asks for in a fetch: the least 4,096 that it wants.
+-- The parts that a mirror asks for in a fetch: the least that it wants, at most `job_limit`.
 abbrev pub mirror_asks : World → MirrorState → List Part
-mirror_asks w m = take 4096 (mirror_wants w m)
+mirror_asks w m = take job_limit (mirror_wants w m)
 
 -- A fetch of mirror `i`, with at most `tries` attempts at each part. To the network the mirror has the number 16 + `i`.
 module _ (passes : ℕ → ℕ → ℕ → ℕ → ℕ → ℕ → Bool) (w : World) (i tries loss : ℕ) where

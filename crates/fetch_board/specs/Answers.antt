@@ -18,8 +18,9 @@ seen_word (Done a) = seen.Done
 seen_word Spent = seen.Spent
 
 module _ {T : Type 0} where
-  -- At its one step on the item's word the seat v found the word w, and so became v'. The word can be
-  -- found at an item of so many tries, and it reports no fewer attempts than the seat had seen.
+  -- At its one step on the item's word the seat v found the word w, and so became v'. The word can be found at an item
+  -- of as many tries as the seat's. Where it says that the item is wanted or held, it reports no fewer attempts than
+  -- the seat had seen.
   pub record Finds (i : ℕ) (w : Word) (v v' : SeatData T) : Type 0 where
     pub within : IsWithinTries v.tries w
     pub later : IsAtMost (seen_of i v) w

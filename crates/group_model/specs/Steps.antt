@@ -137,9 +137,13 @@ syncs_of j (m ∷ ms) = record { sender = j; vector = m.known } ∷ syncs_of (j 
 
 -- ---- a fetch
 
--- The parts that a fetch tries: the first 4,096 that are wanted and not claimed.
+-- How many parts a fetch tries at most, and each phase of a settle.
+abbrev pub job_limit : ℕ
+job_limit = 4096
+
+-- The parts that a fetch tries: the least that are wanted and not claimed, as many as a fetch may try.
 abbrev pub planned_parts : World → ℕ → List Part
-planned_parts w j = take 4096 (unclaimed_at w j)
+planned_parts w j = take job_limit (unclaimed_at w j)
 
 -- The members, with an empty one in the place of the asking member.
 abbrev pub others_of : World → ℕ → List Member

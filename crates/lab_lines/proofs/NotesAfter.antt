@@ -20,7 +20,8 @@ use Rattle.lab_text.specs.Notes.{after_spaces, is_note}
 use Rattle.lab_lines.specs.declared.totals.Totals.{Totals}
 use Rattle.lab_lines.specs.Carrying.{Ends, EndsAfter, HasRead, IsPiece, IsSettled, IsUnread, NotesAreRead, RestIsPassed}
 use Rattle.lab_lines.specs.Carrying.{RestIsRead, after_feed, after_stop_at, through_feed}
-use Rattle.lab_lines.specs.Folding.{FormOf, after_notes, fits, most_octets}
+use Rattle.lab_text.specs.Limits.{most_octets}
+use Rattle.lab_lines.specs.Folding.{FormOf, after_notes, fits}
 use Rattle.lab_lines.specs.Written.{Known}
 use Rattle.lab_lines.proofs.Ends.{ends_so_far, known_map, unread_no_end}
 use Rattle.lab_lines.proofs.LongLines.{first_of, long_beyond, long_some}

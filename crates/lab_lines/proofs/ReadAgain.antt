@@ -23,9 +23,10 @@ use Rattle.lab_text.specs.Transcripts.{line_with_report, report_note, shown_line
 use Rattle.lab_text.proofs.Feeds.{feed_gone, free_take}
 use Rattle.lab_text.proofs.NoteTexts.{is_a_note, shown_of_whole}
 use Rattle.lab_text.proofs.TranscriptLaws.{lines_of_both}
+use Rattle.lab_text.specs.Limits.{most_lines, most_octets}
 use Rattle.lab_lines.specs.Folding.{FormOf, Lined, NextLine, Passed, Ran, after_line, after_note, after_notes}
 use Rattle.lab_lines.specs.Folding.{after_stop}
-use Rattle.lab_lines.specs.Folding.{fits, lined, looked, most_lines, most_octets, next_line, noted, ran_from}
+use Rattle.lab_lines.specs.Folding.{fits, lined, looked, next_line, noted, ran_from}
 use Rattle.lab_lines.specs.Folding.{scripted}
 use Rattle.lab_lines.specs.Folding.{stopping_line, stops, taken_line, with_text}
 use Rattle.lab_lines.specs.Transcript.{transcript_form}

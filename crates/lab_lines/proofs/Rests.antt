@@ -9,7 +9,7 @@ use Rattle.repo_io.specs.Lines.{IsWhole, has_feed}
 use Rattle.script_lines.specs.Reading.{IsTooLong, LineIsBegun}
 use Rattle.lab_lines.specs.declared.totals.Totals.{Totals}
 use Rattle.lab_lines.specs.Carrying.{IsPiece, RestIsPassed, after_feed, through_feed}
-use Rattle.lab_lines.specs.Folding.{most_octets}
+use Rattle.lab_text.specs.Limits.{most_octets}
 use Rattle.lab_lines.specs.Written.{Known}
 use Rattle.lab_lines.proofs.Ends.{known_map}
 use Rattle.lab_lines.proofs.LongLines.{free_cut, free_joined, open_cut, whole_cut}

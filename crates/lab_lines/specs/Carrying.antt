@@ -28,7 +28,7 @@ use Rattle.lab_lines.specs.declared.totals.Totals.{Totals}
 use Rattle.lab_lines.specs.declared.over.Over.{Over}
 use Rattle.lab_lines.specs.declared.over.Over.TheVariants.{Stopped, Faulted}
 use Rattle.lab_lines.specs.Folding.{FormOf, Lined, Passed, Ran, after_notes, after_stop, form_outcome, lined}
-use Rattle.lab_lines.specs.Folding.{most_lines, most_octets}
+use Rattle.lab_text.specs.Limits.{most_lines, most_octets}
 use Rattle.lab_lines.specs.Folding.{ran_from, ran_over, with_text}
 use Rattle.lab_lines.specs.Written.{WritesLines, can_be_evaluated}
 

@@ -10,6 +10,7 @@ use Rattle.script_story.specs.declared.ending.Ending.TheVariants as ending
 use Rattle.script_story.specs.Evaluation.{RunEnvironment, State, Verdict, accepted, foreign, refused, not_evaluated}
 use Rattle.script_story.specs.ScriptRun.{Reached, evaluated_next, nothing_reached, reached_after}
 use Rattle.repo_io.specs.Lines.{lines}
+use Rattle.lab_text.specs.Limits.{most_lines, most_octets}
 use Rattle.lab_text.specs.LineTexts.{without_feed}
 use Rattle.lab_text.specs.Notes.{is_note}
 use Rattle.lab_text.specs.Transcripts.{shown_text}
@@ -46,14 +47,6 @@ pub record FormOf (M : Type 0) : Type 0 where
   pub reads_on : Bool
 
 -- ---- the lines of an input
-
--- The most lines of an input, notes among them.
-abbrev pub most_lines : ℕ
-most_lines = 1000000
-
--- The most octets of an input, notes among them.
-abbrev pub most_octets : ℕ
-most_octets = 300000000
 
 -- After `lines` lines and `octets` octets one more line is within these limits, and it isn't too long.
 abbrev pub fits : ℕ → ℕ → List ℕ → Bool

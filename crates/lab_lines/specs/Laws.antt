@@ -10,7 +10,7 @@ use Rattle.lab_text.specs.Differences.{sum_text}
 use Rattle.lab_text.specs.LineTexts.{without_feed}
 use Rattle.lab_text.specs.Notes.{is_note}
 use Rattle.lab_text.specs.Outcomes.{Outcome}
-use Rattle.lab_lines.specs.Folding.{most_lines, most_octets}
+use Rattle.lab_text.specs.Limits.{most_lines, most_octets}
 use Rattle.lab_lines.specs.Transcript.{transcript_of}
 
 -- The text has no more lines and octets than an input may have, notes among them.

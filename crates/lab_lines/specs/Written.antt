@@ -60,6 +60,6 @@ pub record CarriesOut {M : Type 0} (f : FormOf M) (env : RunEnvironment) (form :
   -- The other answers have their causes. Memory may run out at any time.
   pub causes : HasCause (option_map (form_outcome f env form) input) status SourceFailed SinkFailed
   pub never_usage : status ≢ Usage
-  -- The text of a line is written before the next line is looked for, and little is read past the line that stops the
-  -- script.
+  -- Where the source fails, all was written that the form writes of the lines before; and little is read past the line
+  -- that stops the script.
   pub lines : Known input rest (WritesLines f env form old new status)

@@ -1,14 +1,9 @@
 ghost use Rattle.std.specs.Prelude.{◌≡◌, ◌<◌, ◌≤◌, ◌+◌, length, nat_le};
-ghost use Rattle.lab_lines.specs.Folding.{fits, most_lines, most_octets};
+ghost use Rattle.lab_text.specs.Limits.{most_lines, most_octets};
+ghost use Rattle.lab_lines.specs.Folding.{fits};
 
-use lab_text::without_feed;
+use lab_text::{MOST_LINES, MOST_OCTETS, without_feed};
 use script_lang::LINE_LIMIT;
-
-// The most lines of an input, notes among them.
-const MOST_LINES: u32 = 1_000_000;
-
-// The most octets of an input, notes among them.
-const MOST_OCTETS: usize = 300_000_000;
 
 // How many lines and octets of an input were passed.
 #[derive(Clone, Copy)]

@@ -1,6 +1,7 @@
 -- The words of a line, one after another.
 use Rattle.std.proofs.Common.{◌≡◌, ◌<◌, ◌-◌, ℕ, zero, suc, List, refl, arith}
-use Rattle.lab_lint.specs.Columns.{after_spaces, after_word, words_on}
+use Rattle.lab_text.specs.Notes.{after_spaces}
+use Rattle.lab_lint.specs.Columns.{after_word, words_on}
 
 -- One more word is passed.
 pub one_more : (count : ℕ) (octets : List ℕ) → 0 < count

@@ -3,15 +3,11 @@ use Rattle.std.specs.Prelude.{ℕ, zero, suc, ◌+◌, ◌-◌, ◌==◌, Option
 use Rattle.std.specs.Prelude.{take}
 use Rattle.std.specs.Prelude.{if◌then◌else◌}
 use Rattle.script_lang.specs.Lines.{ends_with, is_printable, without_last_octet, without_return}
+use Rattle.lab_text.specs.Notes.{after_spaces}
 
 -- A line without its line feed and the carriage return before it.
 abbrev pub body_of : List ℕ → List ℕ
 body_of line = if ends_with 10 line then without_return (without_last_octet line) else line
-
--- What stands after the spaces with which octets begin.
-unfoldable pub after_spaces : List ℕ → List ℕ
-after_spaces [] = []
-after_spaces (octet ∷ octets) = if octet == 32 then after_spaces octets else octet ∷ octets
 
 -- What stands after the word with which octets begin: from the first space on.
 unfoldable pub after_word : List ℕ → List ℕ

@@ -12,6 +12,7 @@ use Rattle.script_lang.specs.WrongWords.{wrong_of}
 use Rattle.script_report.specs.declared.refusal.Refusal.{Refusal}
 use Rattle.script_report.specs.declared.refusal.Refusal.TheVariants as refusal
 use Rattle.script_report.specs.Refusals.{refusal_word}
+use Rattle.lab_text.specs.Limits.{most_lines, most_octets}
 use Rattle.lab_lint.specs.Columns.{body_of, column_of, first_word, from_place, from_verb}
 use Rattle.lab_lint.specs.Expected.{wrong_column, wrong_text}
 use Rattle.lab_lint.specs.Labels.{checked_place}
@@ -88,14 +89,6 @@ abbrev pub check_finding : CheckFault → Declared → Stated → List ℕ → F
 check_finding fault d s body = finding_at fault body (from_checked (checked_place fault d s) body)
 
 -- ---- limits over lines
-
--- How many lines an input has at most, notes among them.
-abbrev pub most_lines : ℕ
-most_lines = 1000000
-
--- How many octets an input has at most, notes among them.
-abbrev pub most_octets : ℕ
-most_octets = 300000000
 
 -- The text that says how many lines and octets there may be.
 abbrev pub limits_text : List ℕ → ℕ → ℕ → List ℕ

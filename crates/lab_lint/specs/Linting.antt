@@ -14,8 +14,9 @@ use Rattle.lab_text.specs.Outcomes.{Outcome}
 use Rattle.lab_text.specs.declared.status.LabStatus.{LabStatus}
 use Rattle.lab_text.specs.declared.status.LabStatus.TheVariants.{Done, Refused}
 use Rattle.lab_lint.specs.Columns.{body_of}
-use Rattle.lab_lint.specs.Findings.{Finding, check_finding, finding_text, input_finding, line_finding, most_lines}
-use Rattle.lab_lint.specs.Findings.{most_octets, script_finding}
+use Rattle.lab_text.specs.Limits.{most_lines, most_octets}
+use Rattle.lab_lint.specs.Findings.{Finding, check_finding, finding_text, input_finding, line_finding}
+use Rattle.lab_lint.specs.Findings.{script_finding}
 
 -- The result of the lines so far. `lines` and `octets` count all lines, notes among them; `number` counts the lines of
 -- the script, `taken` those of them that weren't refused, and `script` the octets of these; `declared` is what the

@@ -1,8 +1,9 @@
 ghost use Rattle.std.specs.Prelude.{◌≡◌, ◌<◌, length, not, position, IfSome};
 ghost use Rattle.script_lang.specs.Lines.{is_printable, without_return};
-ghost use Rattle.lab_lint.specs.Columns.{after_spaces, after_word, body_of, column_of, first_word, from_place};
-ghost use Rattle.lab_lint.specs.Columns.{from_verb};
+ghost use Rattle.lab_lint.specs.Columns.{after_word, body_of, column_of, first_word, from_place, from_verb};
 ghost use Rattle.lab_lint.specs.Columns.{unprintable_column, words_on};
+
+use lab_text::after_spaces;
 
 // A line without its line feed and the carriage return before it.
 pub(crate) fn body_of(line: &[u8]) -> &[u8]
@@ -21,20 +22,6 @@ fn without_return(line: &[u8]) -> &[u8]
         [body @ .., b'\r'] => body,
         _ => line,
     }
-}
-
-#[tactic(auto, unfolding(crate::specs::Columns::after_spaces))]
-fn after_spaces(octets: &[u8]) -> &[u8]
-    ensures { result.now ≡ after_spaces octets.now }
-{
-    let mut rest = octets;
-    while let [first, others @ ..] = rest {
-        if *first != b' ' {
-            return rest;
-        }
-        rest = others;
-    }
-    rest
 }
 
 #[tactic(auto, unfolding(crate::specs::Columns::after_word))]

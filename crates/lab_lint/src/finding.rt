@@ -9,17 +9,13 @@ ghost use Rattle.lab_lint.specs.Findings.{line_refusal, script_finding};
 use crate::columns::{body_of, column_of, first_word, from_place, from_verb};
 use crate::expected::{put, put_number, put_wrong, wrong_column};
 use crate::labels::checked_place;
+use lab_text::{MOST_LINES, MOST_OCTETS};
 use script_lang::{
     CONTENTS_LIMIT, CheckFault, LINES_LIMIT, Line, LineFault, MEMBERS_LIMIT, MIRRORS_LIMIT,
     PARTS_LIMIT, SCRIPT_LIMIT, SETTLES_LIMIT, Words, find_wrong,
 };
 use script_report::Refusal;
 use std::alloc::{AllocError, Global};
-
-// How many lines and how many octets an input has at most, notes among them.
-pub(crate) const MOST_LINES: u32 = 1_000_000;
-
-pub(crate) const MOST_OCTETS: usize = 300_000_000;
 
 // Each call appends the line of text that says what is wrong with line `number` of a script. Where memory runs out, a
 // part of that text may be appended.

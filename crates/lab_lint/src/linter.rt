@@ -8,10 +8,8 @@ ghost use Rattle.lab_lint.specs.Linting.{after_note, after_refused, after_taken,
 ghost use Rattle.lab_lint.specs.Linting.{evaluated, nothing_passed, read};
 
 use crate::columns::body_of;
-use crate::finding::{
-    MOST_LINES, MOST_OCTETS, put_check_finding, put_input_finding, put_line_finding,
-    put_script_finding,
-};
+use crate::finding::{put_check_finding, put_input_finding, put_line_finding, put_script_finding};
+use lab_text::{MOST_LINES, MOST_OCTETS};
 use script_lang::{CheckFault, LINES_LIMIT, Line, LineFault, SCRIPT_LIMIT, Words, read_line};
 use std::alloc::{AllocError, Global};
 use std::marker::Model;

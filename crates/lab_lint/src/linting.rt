@@ -7,9 +7,8 @@ ghost use Rattle.lab_lint.specs.Linting.{end_of, is_short_note, lint_from, lint_
 ghost use Rattle.lab_lint.specs.Linting.{sum_text, with_text};
 
 use crate::expected::{put, put_number};
-use crate::finding::MOST_OCTETS;
 use crate::linter::Linter;
-use lab_text::{LabStatus, is_note, split_first_line, without_feed};
+use lab_text::{LabStatus, MOST_OCTETS, is_note, split_first_line, without_feed};
 use repo_io::{ReadFault, Sink, Source, read_up_to, write_whole};
 use script_lang::LINE_LIMIT;
 use std::alloc::{AllocError, Global};

@@ -3,17 +3,10 @@ use Rattle.std.specs.Prelude.{ℕ, ◌+◌, Bool, true, false, ◌&&◌, ◌||�
 use Rattle.std.specs.Prelude.{if◌then◌else◌}
 use Rattle.repo_io.specs.Lines.{lines}
 use Rattle.script_lang.specs.Limits.{line_octets, script_lines, script_octets}
+use Rattle.lab_text.specs.Limits.{most_lines, most_octets}
 use Rattle.lab_text.specs.LineTexts.{without_feed}
 use Rattle.lab_text.specs.Notes.{is_note}
 use Rattle.lab_seeds.specs.declared.input.Totals.{Totals}
-
--- How many lines an input may have, its notes among them.
-abbrev pub input_lines : ℕ
-input_lines = 1000000
-
--- How many octets an input may have, its notes among them.
-abbrev pub input_octets : ℕ
-input_octets = 300000000
 
 -- The totals before the first line.
 abbrev pub no_totals : Totals
@@ -30,8 +23,8 @@ with_line t line = record {
 
 -- A line is no longer than a line may be, and within the limits of an input.
 abbrev pub fits_input : Totals → List ℕ → Bool
-fits_input t line = nat_le (length (without_feed line)) line_octets && nat_lt t.lines input_lines
-    && nat_le (t.octets + length line) input_octets
+fits_input t line = nat_le (length (without_feed line)) line_octets && nat_lt t.lines most_lines
+    && nat_le (t.octets + length line) most_octets
 
 -- One more line of the script is within the limits of a script.
 abbrev pub fits_script : Totals → List ℕ → Bool

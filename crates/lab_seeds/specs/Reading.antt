@@ -6,7 +6,8 @@ use Rattle.lab_text.specs.Notes.{is_note}
 use Rattle.lab_seeds.specs.declared.input.ScriptLines.{ScriptLines as Kept}
 use Rattle.lab_seeds.specs.declared.input.SoFar.{SoFar}
 use Rattle.lab_seeds.specs.declared.input.Totals.{Totals}
-use Rattle.lab_seeds.specs.Inputs.{ScriptLines, fits, input_lines, input_octets, script_lines_are, script_of, with_line}
+use Rattle.lab_text.specs.Limits.{most_lines, most_octets}
+use Rattle.lab_seeds.specs.Inputs.{ScriptLines, fits, script_lines_are, script_of, with_line}
 
 -- ---- what is kept
 
@@ -22,8 +23,8 @@ lines_read s = script_lines_are (octets_of s.lines.items) s.cut
 
 -- The totals are within the limits.
 pub record AreWithin (t : Totals) : Type 0 where
-  pub lines : t.lines ≤ input_lines
-  pub octets : t.octets ≤ input_octets
+  pub lines : t.lines ≤ most_lines
+  pub octets : t.octets ≤ most_octets
   pub script_lines : t.script_lines ≤ script_lines
   pub script_octets : t.script_octets ≤ script_octets
 

@@ -8,17 +8,11 @@ ghost use Rattle.lab_seeds.specs.Inputs.{fits, fits_input, fits_script, no_total
 ghost use Rattle.lab_seeds.specs.Inputs.{with_line};
 ghost use Rattle.lab_seeds.specs.Reading.{AreWithin, IsRead, Known, Takes, lines_before, lines_read, octets_of};
 
-use lab_text::is_note;
+use lab_text::{MOST_LINES, MOST_OCTETS, is_note, without_feed};
 use repo_io::{ReadFault, Source};
 use script_lang::{LINE_LIMIT, LINES_LIMIT, SCRIPT_LIMIT};
 use script_lines::{LineReader, Next};
 use std::alloc::{AllocError, Global};
-
-// How many lines an input may have, notes among them.
-const INPUT_LINES: u32 = 1_000_000;
-
-// How many octets an input may have, notes among them.
-const INPUT_LIMIT: usize = 300_000_000;
 
 // The lines of a script without its notes, each with its line feed.
 #[derive(Drop)]
@@ -62,9 +56,9 @@ impl Totals {
         requires { AreWithin self.now }
         ensures { result ≡ fits_input self.now line.now }
     {
-        text_len(line) <= LINE_LIMIT
-            && self.lines < INPUT_LINES
-            && self.octets + line.len() <= INPUT_LIMIT
+        without_feed(line).len() <= LINE_LIMIT
+            && self.lines < MOST_LINES
+            && self.octets + line.len() <= MOST_OCTETS
     }
 
     // Whether one more line of the script exceeds no limit of the script.
@@ -97,16 +91,6 @@ impl Totals {
             script_lines: self.script_lines + 1,
             script_octets: self.script_octets + line.len(),
         }
-    }
-}
-
-// How many octets a line has without its line feed.
-fn text_len(line: &[u8]) -> usize
-    ensures { result ≡ length (without_feed line.now) }
-{
-    match line {
-        [text @ .., b'\n'] => text.len(),
-        _ => line.len(),
     }
 }
 

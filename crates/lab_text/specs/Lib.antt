@@ -1,5 +1,6 @@
 pub use Rattle.repo_io.specs.Lines
 pub use Rattle.repo_io.specs.Outside
+pub mod Limits
 pub mod Cutting
 pub mod LineTexts
 pub mod Notes

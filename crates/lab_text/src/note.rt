@@ -39,7 +39,8 @@ pub fn put_note_line(out: &mut Vec<u8>, note: &[u8]) -> Result<(), AllocError>
     all_or_nothing(out, before, written)
 }
 
-fn after_spaces(line: &[u8]) -> &[u8]
+/// What stands after the spaces with which a line begins.
+pub fn after_spaces(line: &[u8]) -> &[u8]
     ensures { result.now ≡ after_spaces line.now }
 {
     let mut rest = line;

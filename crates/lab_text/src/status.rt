@@ -4,7 +4,8 @@ ghost use Rattle.lab_text.specs.Outcomes.{exit_code};
 /// How a form of the lab ended. The text that it wrote says at which line and by which refusal.
 #[derive(Clone, Copy, Debug, PartialEq, Eq)]
 pub enum LabStatus {
-    /// The input was read to its end, and the whole text was written.
+    /// The whole text was written, and the input was read to its end; but `check` may end at a line that is refused or
+    /// foreign as its notes expect.
     Done,
     /// The words are no form of the lab.
     Usage,

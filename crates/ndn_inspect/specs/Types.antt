@@ -1,37 +1,43 @@
 -- The types of elements that have names (NDN Packet Format 0.3, "TLV-TYPE numbers").
 use Rattle.std.specs.Prelude.{ℕ, Bool, false, List, [], ◌∷◌, codes, ◌==◌, ◌||◌, if◌then◌else◌}
+use Rattle.ndn_tlv.specs.Types.{ImplicitSha256DigestComponent, ParametersSha256DigestComponent, Interest, Data, Name}
+use Rattle.ndn_tlv.specs.Types.{GenericNameComponent, Nonce, InterestLifetime, MustBeFresh, MetaInfo, Content}
+use Rattle.ndn_tlv.specs.Types.{SignatureInfo, SignatureValue, ContentType, FreshnessPeriod, FinalBlockId}
+use Rattle.ndn_tlv.specs.Types.{SignatureType, KeyLocator, KeyDigest, ForwardingHint, CanBePrefix, HopLimit}
+use Rattle.ndn_tlv.specs.Types.{ApplicationParameters, InterestSignatureInfo, InterestSignatureValue}
+use Rattle.ndn_tlv.specs.Types.{SegmentNameComponent, VersionNameComponent, SequenceNumNameComponent}
 
 -- Types with their names.
 abbrev pub type_names : List (ℕ × List ℕ)
 type_names =
-    (0x01, codes "ImplicitSha256DigestComponent")
-    ∷ (0x02, codes "ParametersSha256DigestComponent")
-    ∷ (0x05, codes "Interest")
-    ∷ (0x06, codes "Data")
-    ∷ (0x07, codes "Name")
-    ∷ (0x08, codes "GenericNameComponent")
-    ∷ (0x0a, codes "Nonce")
-    ∷ (0x0c, codes "InterestLifetime")
-    ∷ (0x12, codes "MustBeFresh")
-    ∷ (0x14, codes "MetaInfo")
-    ∷ (0x15, codes "Content")
-    ∷ (0x16, codes "SignatureInfo")
-    ∷ (0x17, codes "SignatureValue")
-    ∷ (0x18, codes "ContentType")
-    ∷ (0x19, codes "FreshnessPeriod")
-    ∷ (0x1a, codes "FinalBlockId")
-    ∷ (0x1b, codes "SignatureType")
-    ∷ (0x1c, codes "KeyLocator")
-    ∷ (0x1d, codes "KeyDigest")
-    ∷ (0x1e, codes "ForwardingHint")
-    ∷ (0x21, codes "CanBePrefix")
-    ∷ (0x22, codes "HopLimit")
-    ∷ (0x24, codes "ApplicationParameters")
-    ∷ (0x2c, codes "InterestSignatureInfo")
-    ∷ (0x2e, codes "InterestSignatureValue")
-    ∷ (0x32, codes "SegmentNameComponent")
-    ∷ (0x36, codes "VersionNameComponent")
-    ∷ (0x3a, codes "SequenceNumNameComponent")
+    (ImplicitSha256DigestComponent, codes "ImplicitSha256DigestComponent")
+    ∷ (ParametersSha256DigestComponent, codes "ParametersSha256DigestComponent")
+    ∷ (Interest, codes "Interest")
+    ∷ (Data, codes "Data")
+    ∷ (Name, codes "Name")
+    ∷ (GenericNameComponent, codes "GenericNameComponent")
+    ∷ (Nonce, codes "Nonce")
+    ∷ (InterestLifetime, codes "InterestLifetime")
+    ∷ (MustBeFresh, codes "MustBeFresh")
+    ∷ (MetaInfo, codes "MetaInfo")
+    ∷ (Content, codes "Content")
+    ∷ (SignatureInfo, codes "SignatureInfo")
+    ∷ (SignatureValue, codes "SignatureValue")
+    ∷ (ContentType, codes "ContentType")
+    ∷ (FreshnessPeriod, codes "FreshnessPeriod")
+    ∷ (FinalBlockId, codes "FinalBlockId")
+    ∷ (SignatureType, codes "SignatureType")
+    ∷ (KeyLocator, codes "KeyLocator")
+    ∷ (KeyDigest, codes "KeyDigest")
+    ∷ (ForwardingHint, codes "ForwardingHint")
+    ∷ (CanBePrefix, codes "CanBePrefix")
+    ∷ (HopLimit, codes "HopLimit")
+    ∷ (ApplicationParameters, codes "ApplicationParameters")
+    ∷ (InterestSignatureInfo, codes "InterestSignatureInfo")
+    ∷ (InterestSignatureValue, codes "InterestSignatureValue")
+    ∷ (SegmentNameComponent, codes "SegmentNameComponent")
+    ∷ (VersionNameComponent, codes "VersionNameComponent")
+    ∷ (SequenceNumNameComponent, codes "SequenceNumNameComponent")
     ∷ []
 
 -- The name that the list has for a type.
@@ -52,4 +58,5 @@ is_type_among (other ∷ others) typ = typ == other || is_type_among others typ
 -- SignatureInfo, FinalBlockId, KeyLocator and InterestSignatureInfo are.
 unfoldable pub has_elements : ℕ → Bool
 has_elements typ =
-    is_type_among (0x05 ∷ 0x06 ∷ 0x07 ∷ 0x14 ∷ 0x16 ∷ 0x1a ∷ 0x1c ∷ 0x2c ∷ []) typ
+    is_type_among
+    (Interest ∷ Data ∷ Name ∷ MetaInfo ∷ SignatureInfo ∷ FinalBlockId ∷ KeyLocator ∷ InterestSignatureInfo ∷ []) typ

@@ -1,5 +1,4 @@
--- The laws that crates above may cite: each is what its public function states. The changes that are missing here are
--- the group's by computing.
+-- The laws and lemmas that crates above may cite. The changes that are missing here are the group's by computing.
 pub use Rattle.repo_member.proofs.ChangeLemmas.{begins_alike, publishes_alike, accepts_alike, takes_alike}
 pub use Rattle.repo_member.proofs.GroupPlans.{sound_stores_consistently, plans_alike, wants_alike}
 pub use Rattle.repo_member.proofs.GroupCatalogues.{lists_alike}

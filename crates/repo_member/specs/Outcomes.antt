@@ -51,10 +51,6 @@ AreFetchedOf g h [] [] [] = Unit {0}
 AreFetchedOf g h (job ∷ jobs) (part ∷ parts) (n ∷ ns) = IsFetchedOf g h job part n × AreFetchedOf g h jobs parts ns
 AreFetchedOf g h _ _ _ = ⊥
 
--- how many jobs a fetch has at most
-abbrev pub job_limit : ℕ
-job_limit = 4096
-
 -- the outcome of a fetch that the holder `h` planned: its jobs are of different parts, and each has its result
 pub record IsOutcomeOf (g : GroupKeys) (h : HoldingsState) (jobs : List Job) (parts : List (Option CheckedPart))
     (attempts : List ℕ) : Type 0 where

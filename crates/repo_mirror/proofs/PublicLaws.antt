@@ -1,4 +1,4 @@
--- The laws that crates above may cite: each is what its public function states.
+-- The laws and lemmas that crates above may cite.
 pub use Rattle.repo_mirror.proofs.PlannedLemmas.{planned_jobs_are_outcomes, rising_jobs_are_outcomes}
 pub use Rattle.repo_mirror.proofs.PlannedLemmas.{mirrors_plan_jobs, mirrors_plan_jobs_that}
 pub use Rattle.repo_mirror.proofs.PlannedLemmas.{holder_outcomes_are_mirrors}

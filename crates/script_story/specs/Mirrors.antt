@@ -16,7 +16,7 @@ use Rattle.group_model.specs.Publications.{Logs, Publication, all_parts, pair_in
 use Rattle.group_model.specs.Publications.{shape_at, withdraws}
 use Rattle.group_model.specs.Member.{tries_of}
 use Rattle.group_model.specs.World.{World, logs, someone_holds}
-use Rattle.group_model.specs.Steps.{settled_vector}
+use Rattle.group_model.specs.Steps.{job_limit, settled_vector}
 use Rattle.repo_mirror.specs.Asked.{is_for}
 use Rattle.repo_mirror.specs.Mirrors.{is_object_accepted, mirror_holds}
 use Rattle.repo_mirror.specs.MirrorState.{MirrorState}
@@ -68,13 +68,13 @@ is_wanted_by ls m t =
     nat_le t.seq (slice_index m.known t.publisher)
     && (is_publisher m.pattern.publisher t.publisher && ((t.part == 0 || is_asked_for ls m t) && not (m.holds t)))
 
--- The parts that the mirror wants, in order. A fetch asks for the least 4,096 of them.
+-- The parts that the mirror wants, in order. A fetch asks for the least of them, at most `job_limit`.
 abbrev pub wanted_by : World → Mirroring → List Part
 wanted_by w m = filter (is_wanted_by (logs w) m) (all_parts (logs w))
 
 -- The parts that a fetch of it tries.
 abbrev pub asked_by : World → Mirroring → List Part
-asked_by w m = take 4096 (wanted_by w m)
+asked_by w m = take job_limit (wanted_by w m)
 
 -- ---- what it fetches of members
 

@@ -6,7 +6,7 @@ ghost use Rattle.repo_mirror.specs.MirrorState.{fetch_plan};
 use super::Mirror;
 
 impl Mirror {
-    /// How many parts the mirror holds. Takes no look-up.
+    /// How many parts the mirror stores. Takes no look-up.
     pub fn held_count(&self) -> u64
         ensures { result ≡ length (fetch_plan self.now).held }
     {

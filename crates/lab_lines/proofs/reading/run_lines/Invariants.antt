@@ -2,7 +2,7 @@ use Rattle.std.proofs.Common.{◌≤◌, ◌-◌}
 use Rattle.script_story.specs.Evaluation.{env_by}
 use Rattle.script_lines.specs.Scripts.{reached}
 use Rattle.lab_lines.specs.Carrying.{CanGoOn, Carried, passed}
-use Rattle.lab_lines.specs.Folding.{most_lines}
+use Rattle.lab_text.specs.Limits.{most_lines}
 use Rattle.lab_lines.specs.Written.{Known}
 use Rattle.lab_lines.proofs.reading.run_lines.Given as goal
 

@@ -1,7 +1,7 @@
 use Rattle.std.proofs.Common.{◌∙◌, ◌+◌, sym, ap, subst, List, ℕ, Bool, Ok, length, arith}
 use Rattle.std.proofs.lemmas.Bool.{leb-false}
 use Rattle.lab_lines.specs.Carrying.{IsPiece, RestIsPassed}
-use Rattle.lab_lines.specs.Folding.{most_octets}
+use Rattle.lab_text.specs.Limits.{most_octets}
 use Rattle.lab_lines.specs.Written.{Known}
 use Rattle.lab_lines.proofs.Rests.{Passing, known_over, known_part, known_passed, known_passing}
 use Rattle.lab_lines.proofs.reading_on.pass_rest.Goals as goal

@@ -1,5 +1,5 @@
 use Rattle.std.proofs.Common.{◌≤◌, ◌-◌, ◌+◌}
-use Rattle.lab_lines.specs.Folding.{most_octets}
+use Rattle.lab_text.specs.Limits.{most_octets}
 use Rattle.lab_lines.specs.Written.{Known}
 use Rattle.lab_lines.proofs.Rests.{Passing}
 use Rattle.lab_lines.proofs.reading_on.pass_rest.Given as goal

@@ -1,5 +1,5 @@
 use Rattle.std.proofs.Common.{◌≤◌, ◌-◌}
-use Rattle.lab_lines.specs.Folding.{most_lines}
+use Rattle.lab_text.specs.Limits.{most_lines}
 use Rattle.lab_lines.specs.Written.{Known}
 use Rattle.lab_lines.proofs.NotesAfter.{NotesSoFar}
 use Rattle.lab_lines.proofs.reading_on.read_notes.Given as goal
