@@ -306,11 +306,11 @@ pub record AreAsked (s last : State) (m : ℕ) : Type 0 where
   pub are : watchers_at last m ≡ after_watch_calls calls (watchers_at s m)
 
 -- What stands at a place of a list once one place is written.
-data IsSetAt (ws : List (List Watching)) (k m : ℕ) (x : List Watching) : Type 0 where
+pub data IsSetAt (ws : List (List Watching)) (k m : ℕ) (x : List Watching) : Type 0 where
   other : get_or (set ws k x) m [] ≡ get_or ws m [] → IsSetAt ws k m x
   itself : m ≡ k → get_or (set ws k x) m [] ≡ x → IsSetAt ws k m x
 
-set_at : (ws : List (List Watching)) (k m : ℕ) (x : List Watching) → IsSetAt ws k m x
+pub set_at : (ws : List (List Watching)) (k m : ℕ) (x : List Watching) → IsSetAt ws k m x
 set_at [] k m x = other refl
 set_at (w ∷ ws) zero zero x = itself refl refl
 set_at (w ∷ ws) zero (suc m) x = other refl

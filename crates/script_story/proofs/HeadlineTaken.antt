@@ -4,7 +4,8 @@ use Rattle.std.proofs.Common.{if◌then◌else◌, set, Option, Some, None}
 use Rattle.std.proofs.lemmas.List.{length-map, length-set}
 use Rattle.std.specs.Prelude.{is_some}
 use Rattle.repo_catalog.specs.declared.entry.Entry.{Entry}
-use Rattle.repo_watch.specs.Watching.{after_take, watch_of}
+use Rattle.repo_watch.specs.declared.pattern.Pattern.{Pattern}
+use Rattle.repo_watch.specs.Watching.{after_add, after_take, watch_of}
 use Rattle.repo_watch.specs.Laws.{WatchCall, Add, Take, after_watch_call}
 use Rattle.group_model.specs.World.{World, catalogue_at, sent_at}
 use Rattle.group_model.specs.Refusals as group
@@ -36,23 +37,37 @@ pub record IsWatched (env : RunEnvironment) (s : State) (d : Declared) (new : St
   pub call : WatchCall
   pub next : new ≡ with_watchers (found_world env s) s d m (after_watch_call call (watchers_at s m))
 
-pub watched_so : (env : RunEnvironment) (s : State) (d : Declared) (values : List Value) (report : List ℕ) (new : State)
-    → watched_by (found_world env s) s d values ≡ accepted report new → IsWatched env s d new
-watched_so env s d (Text label ∷ publisher ∷ Named prefix ∷ []) report new is =
+-- A member got one watcher more.
+pub record IsAdded (env : RunEnvironment) (s : State) (d : Declared) (new : State) : Type 0 where
+  pub m : ℕ
+  pub pattern : Pattern
+  pub next : new ≡ with_watchers (found_world env s) s d m
+      (after_add pattern (catalogue_at (found_world env s) m) (watchers_at s m))
+
+pub added_so : (env : RunEnvironment) (s : State) (d : Declared) (values : List Value) (report : List ℕ) (new : State)
+    → watched_by (found_world env s) s d values ≡ accepted report new → IsAdded env s d new
+added_so env s d (Text label ∷ publisher ∷ Named prefix ∷ []) report new is =
     go (nat_le 16 (length (watchers_at s m))) is where
       m : ℕ
       m = party_number label d.members
 
-      call : WatchCall
-      call = Add (pattern_for (publisher_number d publisher) prefix) (catalogue_at (found_world env s) m)
+      pattern : Pattern
+      pattern = pattern_for (publisher_number d publisher) prefix
 
       go : (full : Bool) → (if full then refused refusal.Limit
           else accepted (watch_text (label_at (map party_label d.members) m) (length (watchers_at s m) + 1))
-          (with_watchers (found_world env s) s d m (after_watch_call call (watchers_at s m)))) ≡ accepted report new
-          → IsWatched env s d new
+          (with_watchers (found_world env s) s d m
+          (after_add pattern (catalogue_at (found_world env s) m) (watchers_at s m)))) ≡ accepted report new
+          → IsAdded env s d new
       go true k = cc
-      go false k = record { m = m; call = call; next = accepted_state report _ new _ k }
-watched_so env s d values report new is = cc
+      go false k = record { m = m; pattern = pattern; next = accepted_state report _ new _ k }
+added_so env s d values report new is = cc
+
+pub watched_so : (env : RunEnvironment) (s : State) (d : Declared) (values : List Value) (report : List ℕ) (new : State)
+    → watched_by (found_world env s) s d values ≡ accepted report new → IsWatched env s d new
+watched_so env s d values report new is =
+    let added = added_so env s d values report new is in
+    record { m = added.m; call = Add added.pattern (catalogue_at (found_world env s) added.m); next = added.next }
 
 -- The watcher of a number was reported its news.
 pub record IsAnnounced (env : RunEnvironment) (s : State) (d : Declared) (m number : ℕ) (report : List ℕ)

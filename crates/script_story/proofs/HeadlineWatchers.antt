@@ -85,7 +85,7 @@ printed_line env r label number report new sound l =
 
 -- ---- publications of entries
 
-listed_among : (entries : List Entry) (pair : Pair) → contains pair_cmp (map publication_of entries) pair
+pub listed_among : (entries : List Entry) (pair : Pair) → contains pair_cmp (map publication_of entries) pair
     ≡ lists pair entries
 listed_among [] pair = refl
 listed_among (e ∷ es) pair = go (is_of pair e) (listed_among es pair) where
@@ -94,7 +94,7 @@ listed_among (e ∷ es) pair = go (is_of pair e) (listed_among es pair) where
   go true rest = refl
   go false rest = rest
 
-contains_news : (o : Option Watching) (entries : List Entry) (pair : Pair)
+pub contains_news : (o : Option Watching) (entries : List Entry) (pair : Pair)
     → contains pair_cmp (news_of o entries) pair ≡ lists pair (news_in o entries)
 contains_news o entries pair =
     ap (λ (ps : List Pair). contains pair_cmp ps pair) (news_pairs o entries) ∙ listed_among (news_in o entries) pair

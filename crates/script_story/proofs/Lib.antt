@@ -19,6 +19,7 @@ pub mod ListedDigests
 pub mod HeadlineChecks
 pub mod HeadlineShown
 pub mod HeadlineWatchers
+pub mod HeadlineReported
 pub mod MirrorJoins
 pub mod MirrorsKept
 pub mod HeadlineMirrors

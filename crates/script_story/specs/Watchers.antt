@@ -1,5 +1,5 @@
 -- What watchers are given over whole runs.
-use Rattle.std.specs.Prelude.{ℕ, ◌≡◌, ◌<◌, true, false, List, [], ◌∷◌, ◌++◌, length, Some}
+use Rattle.std.specs.Prelude.{ℕ, ◌≡◌, ◌<◌, ◌⊎◌, true, false, List, [], ◌∷◌, ◌++◌, length, Some, None}
 use Rattle.std.specs.List.{filter, list_all}
 use Rattle.repo_plan.specs.Parts.{Pair}
 use Rattle.repo_catalog.specs.declared.entry.Entry.{Entry}
@@ -63,6 +63,29 @@ NewsIsAnnouncedWhole = (env : RunEnvironment) (lines reports : List (List ℕ)) 
     → (pair : Pair) → lists pair (filter (is_for watching.pattern) (catalogue_at (group_at env r) m)) ≡ true
     → (others printed : List (List ℕ)) (last : Reached) → LinesAreTaken env new others printed last
     → IsAmongAnnounced last m number pair
+
+-- The line is a `told` line of the watcher `number` of member `m`, and its report prints an entry of the publication.
+pub record PrintsFor (r : Reached) (line report : List ℕ) (m number : ℕ) (pair : Pair) : Type 0 where
+  pub label : List ℕ
+  pub stated : Says line (statement verb.Told (Text label ∷ Number number ∷ []))
+  pub named : label_at (labels_at r) m ≡ label
+  pub entries : List Entry
+  pub text : report ≡ labelled_news (labels_at r) label number entries
+  pub listed : lists pair entries ≡ true
+
+-- There was no such watcher before the line, and the member lists the publication.
+pub record IsListedAtFirst (env : RunEnvironment) (r : Reached) (m number : ℕ) (pair : Pair) : Type 0 where
+  pub none : watch_of number (watchers_at r.state m) ≡ None
+  pub listed : lists pair (catalogue_at (group_at env r) m) ≡ true
+
+-- What counts as reported to a watcher after a line counted so before it; or the line printed it for the watcher; or
+-- the line made the watcher, and the member listed it.
+abbrev pub ReportedIsPrinted : Type 0
+ReportedIsPrinted = (env : RunEnvironment) (lines reports : List (List ℕ)) (r : Reached)
+    → AreTakenFirst env lines reports r → (line report : List ℕ) (new : Reached) → LineIsTaken env r line report new
+    → (m number : ℕ) (pair : Pair) → IsAmongAnnounced new m number pair
+    → IsAmongAnnounced r m number pair
+    ⊎ (PrintsFor r line report m number pair ⊎ IsListedAtFirst env r m number pair)
 
 -- Where a `told` line stands after a `settle` line, no line before the `settle` line can have deleted anything, and the
 -- lines between change nothing, everything in the join of all publications that the watcher asks for is reported.

@@ -13,6 +13,7 @@ ghost use Rattle.script_story.specs.ScriptRun.{nothing_reached, run_of};
 ghost use Rattle.script_story.specs.InformedMembers.{ReportsNameOnlyMembers};
 ghost use Rattle.script_story.specs.MirrorLaws.{MirrorsAreListed, MirrorsListTheirJoin};
 ghost use Rattle.script_story.specs.Watchers.{SettledAreAnnounced, NewsIsAnnouncedWhole, NewsIsAnnouncedOnce};
+ghost use Rattle.script_story.specs.Watchers.{ReportedIsPrinted};
 ghost use Rattle.script_story.specs.Workers.{WorkersMakeNoDifference};
 
 /// The run of an input is known by its lines: the first of them are taken one after the other, their reports are its
@@ -111,6 +112,12 @@ pub fn news_is_announced_once()
 pub fn news_is_announced_whole()
     ensures all { NewsIsAnnouncedWhole }
     ensures settled { SettledAreAnnounced }
+{}
+
+/// In every run, what counts as reported to a watcher was printed for it by a `told` line, or the member listed it when
+/// the watcher was made: line by line, nothing else comes to count so.
+pub fn reported_is_what_was_printed()
+    ensures { ReportedIsPrinted }
 {}
 
 /// Two inputs that are read as the same lines, except how many workers their `fetch`, `mfetch` and `settle` lines ask
