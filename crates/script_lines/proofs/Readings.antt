@@ -1,9 +1,9 @@
 -- What a reader holds: parts of its room, and the line at the start.
-use Rattle.std.proofs.Common.{◌≡◌, ℕ, zero, suc, ◌+◌, ◌-◌, ◌<◌, ◌≤◌, false, eqb, ltb, List, [], ◌∷◌}
-use Rattle.std.proofs.Common.{◌++◌, length, take, drop, slice_range, get_or, Option, Some, None, Result, Ok, Err, IfOk}
-use Rattle.std.proofs.Common.{refl, sym, ap, ◌∙◌, append_assoc, arith, inl, inr, position}
+use Rattle.std.proofs.Common.{◌≡◌, ◌⊎◌, ℕ, zero, suc, ◌+◌, ◌-◌, ◌<◌, ◌≤◌, true, false, ◌||◌, eqb, ltb, List, []}
+use Rattle.std.proofs.Common.{◌∷◌, ◌++◌, length, take, drop, slice_range, get_or, Option, Some, None, Result, Ok, Err}
+use Rattle.std.proofs.Common.{IfOk, refl, sym, ap, ◌∙◌, append_assoc, arith, inl, inr, position}
 use Rattle.std.specs.Io.KnownBytes.{Consumes, Keeps, prepend_known}
-use Rattle.std.proofs.lemmas.Bool.{or_from, eqb-true, ltb-true, ltb-false, cases_Bool}
+use Rattle.std.proofs.lemmas.Bool.{or_from, or_parts, or_right, true≢false, eqb-true, ltb-true, ltb-false, cases_Bool}
 use Rattle.std.specs.Bool.{then_some}
 use Rattle.std.specs.Option.{MatchOption}
 use Rattle.std.proofs.lemmas.List.{take_more, take-append-drop, drop-take, length-drop, length-take}
@@ -12,7 +12,7 @@ use Rattle.std.proofs.lemmas.List.Quantifiers.{position-Some}
 use Rattle.std.proofs.Math.Seq.{take-add, take-append-add, drop-drop}
 use Rattle.repo_io.specs.Lines.{IsWhole, has_feed}
 use Rattle.repo_io.proofs.LineLaws.{no_feed_found}
-use Rattle.script_lines.specs.Reading.{HasLine, LineIsBegun}
+use Rattle.script_lines.specs.Reading.{HasLine, IsTooLong, LineIsBegun}
 
 -- ---- octets that are read
 
@@ -92,6 +92,24 @@ no_line held free = elim (cases_Bool (ltb 32768 (length held))) [
   | inl long ↦ rw long (too_long held free (ltb-true 32768 (length held) long))
   | inr short ↦ rw short (record { free = free; short = ltb-false 32768 (length held) short })
 ]
+
+-- octets that begin a line have none at their start
+pub no_line_begun : (count : ℕ) (held : List ℕ) → HasLine count held → LineIsBegun held → ⊥
+no_line_begun count held has begun = go has.line where
+  parts : (has_feed (take count held) || has_feed (drop count held)) ≡ false
+  parts =
+      sym (list_any-append (λ octet. eqb octet 10) (take count held) (drop count held))
+      ∙ ap has_feed (take-append-drop count held)
+      ∙ begun.free
+
+  go : IsWhole (take count held) ⊎ (IsTooLong held × (count ≡ length held)) → ⊥
+  go (inl whole) =
+      let feed : has_feed (take count held) ≡ true =
+      ap has_feed whole.is
+      ∙ list_any-append (λ octet. eqb octet 10) whole.prefix (10 ∷ [])
+      ∙ or_right (has_feed whole.prefix) true refl in
+      true≢false (sym feed ∙ (or_parts (has_feed (take count held)) (has_feed (drop count held)) parts).0)
+  go (inr long) = omega (arith, long.0.long, begun.short)
 
 -- ---- parts of the room
 

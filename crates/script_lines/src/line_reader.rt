@@ -1,5 +1,5 @@
-ghost use Rattle.std.specs.Prelude.{◌≡◌, ◌<◌, ◌≤◌, ◌+◌, ◌-◌, false, [], length, take, drop, slice_range, Ok, IfOk};
-ghost use Rattle.std.specs.Prelude.{IfSome, MatchOption, OnErr, ◌==◌, position};
+ghost use Rattle.std.specs.Prelude.{◌≡◌, ◌<◌, ◌≤◌, ◌+◌, ◌-◌, false, ℕ, [], length, take, drop, slice_range, Ok};
+ghost use Rattle.std.specs.Prelude.{IfOk, IfSome, MatchOption, OnErr, ◌==◌, position};
 ghost use Rattle.std.specs.Io.KnownBytes.{IsAtEnd, Keeps, prepend_known};
 ghost use Rattle.repo_io.specs.Lines.{has_feed};
 ghost use Rattle.repo_io.specs.Outside.{HasRisen};
@@ -84,11 +84,14 @@ impl LineReader {
         self.searched = self.start;
     }
 
-    /// The line with which the octets held begin. No more is read than is needed to find its end.
+    /// The line with which the octets held begin. No more is read than is needed to find its end, and nothing where the
+    /// octets held have it.
     pub fn next<S: Source>(&mut self, source: &mut S) -> Result<Next, Failed>
         ensures kept { Keeps (prepend_known self.old (S.left source.old)) (prepend_known self.new (S.left source.new)) }
         ensures few { length self.new ≤ 65536 }
         ensures next { IfOk result (IsNext self.new) }
+        ensures unread { (count : ℕ) → HasLine count self.old
+            → (self.new ≡ self.old) × (source.new ≡ source.old) }
         ensures last { IfOk result (λ next. next ≡ Next.Last → IsAtEnd (S.left source.new)) }
         ensures failed { OnErr result (LineIsBegun self.new) }
         ensures risen { OnErr result (HasRisen (S.faults source.old) (S.faults source.new)) }
