@@ -1,7 +1,7 @@
 -- The members that come out of the threads, after the settle.
 use Rattle.std.proofs.Common.{◌≡◌, ℕ, ◌<◌, List, [], map, length, get_or}
-use Rattle.std.proofs.Common.{refl, sym, ap, ◌∙◌, subst, arith, Vec, Global}
-use Rattle.std.specs.Prelude.{Result, Ok, Err, IfOk}
+use Rattle.std.proofs.Common.{refl, sym, ap, ◌∙◌, subst, arith, inl, inr, Vec, Global}
+use Rattle.std.specs.Prelude.{Result, Ok, Err, IfOk, ◌≢◌, ◌⊎◌}
 use Rattle.std.specs.List.{All}
 use Rattle.std.proofs.lemmas.List.{get_or-map, length-map}
 use Rattle.std.proofs.lemmas.List.Sums.{sum_by-append}
@@ -14,7 +14,7 @@ use Rattle.live_settle.specs.declared.ran.Ran.{Ran}
 use Rattle.live_settle.specs.Ready.{at, Continues}
 use Rattle.live_settle.specs.Rans.{numbers_below, AreRans, AreContinued}
 use Rattle.live_group.specs.Desks.{HasRoom, HasActed, HasEnded}
-use Rattle.live_group.specs.Outs.{IsOut, HasRun}
+use Rattle.live_group.specs.Outs.{BeginsAnew, GoesOn, HasRun, IsOut}
 
 -- the claims of fetcher 2 in a journal that goes on
 pub still_claims : (old new : List LiveEntry) → Continues old new → claims_by 2 new ≡ claims_by 2 old
@@ -25,17 +25,20 @@ still_claims old new is =
 pub has_run : (t : Meaning) (turns : ℕ) (l : Living) (r : Ran) → IsOut t turns l → l.state.number ≡ r.member.number
     → Continues l.journal r.journal.items → HasRun t turns r
 has_run t turns l r o number continues =
-    let goes_on : o.out.state.number ≡ r.member.number → Continues o.out.journal r.journal.items =
-    λ same. subst (λ (m : Living). Continues m.journal r.journal.items) (o.same (same ∙ sym number)) continues in
-    record {
-      out = o.out;
-      live = o.live;
-      acted = o.acted;
-      goes_on = goes_on;
-      second =
-          λ same room.
-          still_claims o.out.journal r.journal.items (goes_on same) ∙ (o.acted room).second;
-    }
+    record { out = o.out; live = o.live; acted = o.acted; goes_on = go o.goes_on } where
+      go : (l ≡ o.out) ⊎ ((o.out.state.number ≢ l.state.number) × (l.journal ≡ []))
+          → GoesOn turns o.out r ⊎ BeginsAnew o.out r
+      go (inl same) =
+          let journal : Continues o.out.journal r.journal.items =
+          subst (λ (m : Living). Continues m.journal r.journal.items) same continues in
+          inl (record {
+            journal = journal;
+            second = λ room. still_claims o.out.journal r.journal.items journal ∙ (o.acted room).second;
+          })
+      go (inr anew) = inr (record {
+        other = λ same. anew.0 (same ∙ sym number);
+        none = still_claims l.journal r.journal.items continues ∙ ap (claims_by 2) anew.1;
+      })
 
 module _ (t : Meaning) (turns : ℕ) (lives : List Living) (numbers : List ℕ)
     (placed : map (λ l. l.state.number) lives ≡ numbers) (outs : All (IsOut t turns) lives) where
@@ -71,13 +74,13 @@ module _ (t : Meaning) (turns left : ℕ) (was out : Living) (same : out ≡ was
   has_acted = subst (λ (l : Living). HasRoom l → HasActed turns l) (sym same) (ended none)
 
   pub itself_out : IsOut t turns out
-  itself_out = record { out = out; live = live; acted = has_acted; same = λ number. refl }
+  itself_out = record { out = out; live = live; acted = has_acted; goes_on = inl refl }
 
   pub made_anew : (number : ℕ) → (out.state.number ≡ number → ⊥) → (l : Living) → l.state.number ≡ number
-      → IsOut t turns l
-  made_anew number other l its = record {
+      → l.journal ≡ [] → IsOut t turns l
+  made_anew number other l its empty = record {
     out = out;
     live = live;
     acted = has_acted;
-    same = λ equal. absurd (other (equal ∙ its));
+    goes_on = inr (λ equal. other (equal ∙ its), empty);
   }

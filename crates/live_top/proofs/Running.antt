@@ -5,6 +5,7 @@ use Rattle.std.proofs.lemmas.List.Elements.{All-nil}
 use Rattle.std.proofs.KnownBytes.{Appends-nil}
 use Rattle.script_lang.specs.Checking.{Party, party_label}
 use Rattle.live_member.specs.Meanings.{IsWithinLimits, meaning_of}
+use Rattle.live_group.specs.Outs as threads
 use Rattle.live_settle.specs.Rans.{IsRan, numbers_below}
 use Rattle.repo_io.specs.Outside.{GainsText}
 use Rattle.live_script.specs.Evaluation.{Reached}
@@ -38,5 +39,6 @@ nobody_ran draw r a none = record {
     numbers = sym (ap (λ ls. numbers_below (length ls)) none.lists);
     each = All-nil (IsRan (meaning_at draw r));
   };
+  acted = All-nil (threads.HasRun (meaning_at draw r) (threads.turns_of (meaning_at draw r)));
   text = subst (GainsText a a) (sym (no_text r none)) (Appends-nil a);
 }

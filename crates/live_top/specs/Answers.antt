@@ -2,8 +2,11 @@
 use Rattle.std.specs.Prelude.{◌≡◌, ◌≢◌, ◌↔◌, ◌⊎◌, ⊤, ℕ, Bool, true, false, List, [], ◌∷◌, codes, Option, Some, None}
 use Rattle.std.specs.Prelude.{IfSome, IsSome, Vec}
 use Rattle.std.specs.Global.{Global}
+use Rattle.std.specs.List.{All}
 use Rattle.std.specs.Str.{bytes_eq}
 use Rattle.std.specs.Io.KnownBytes.{IsAtEnd, Keeps, prepend_known}
+use Rattle.live_member.specs.Meanings.{Meaning}
+use Rattle.live_group.specs.Outs as threads
 use Rattle.live_settle.specs.declared.ran.Ran.{Ran}
 use Rattle.live_settle.specs.Rans.{AreRans}
 use Rattle.repo_io.specs.declared.status.Status.{Status}
@@ -34,9 +37,13 @@ pub record SaysRefused (line number : ℕ) (old new : Option (List ℕ)) : Type 
   pub number_is : number ≡ refusal_number why
   pub text : GainsText old new (refusal_text line why)
 
--- An input was read to its end, each of its lines was taken, its members ran, and their journals and catalogues were
--- written. `left` and `rest` are what is left in the source before and after the run. `old` and `new` are what was
--- written to the sink before and after it.
+-- All that the actors of each member do was done before the settle, as far as a run in threads promises it.
+abbrev pub HaveActed : Meaning → List Ran → Type 0
+HaveActed t rans = All (threads.HasRun t (threads.turns_of t)) rans
+
+-- An input was read to its end, each of its lines was taken, its members ran and all that their actors do was done, and
+-- their journals and catalogues were written. `left` and `rest` are what is left in the source before and after the
+-- run. `old` and `new` are what was written to the sink before and after it.
 pub record HasRun (draw : ℕ → ℕ → ℕ) (left rest old new : Option (List ℕ)) (rans : List Ran) : Type 0 where
   pub input : List ℕ
   pub read : Keeps left (prepend_known input rest)
@@ -44,6 +51,7 @@ pub record HasRun (draw : ℕ → ℕ → ℕ) (left rest old new : Option (List
   pub reached : Reached
   pub taken : outcome_of input ≡ Taken reached
   pub ran : AreRans (meaning_at draw reached) rans
+  pub acted : HaveActed (meaning_at draw reached) rans
   pub text : GainsText old new (live_text (labels_at reached) rans)
 
 -- A text that a run may write over an input whose lines were all taken: the journals and catalogues of members that
@@ -119,9 +127,11 @@ Refuses line why old new status.WriteFault = GainsPrefix old new (refusal_text l
 Refuses line why old new status.NoMemory = ⊤
 Refuses line why old new _ = ⊥
 
--- The members that the lines gave ran, `rans` is the result, and their journals and catalogues were written.
+-- The members that the lines gave ran, `rans` is the result, all that their actors do was done, and their journals and
+-- catalogues were written.
 pub record RunsTo (draw : ℕ → ℕ → ℕ) (r : Reached) (old new : Option (List ℕ)) (rans : List Ran) : Type 0 where
   pub ran : AreRans (meaning_at draw r) rans
+  pub acted : HaveActed (meaning_at draw r) rans
   pub text : GainsText old new (live_text (labels_at r) rans)
 
 -- How a run of a group ends. On `Done` the members that ran are left, and their journals and catalogues were written.

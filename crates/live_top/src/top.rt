@@ -3,7 +3,7 @@ ghost use Rattle.live_member.specs.Meanings.{IsWithinLimits, meaning_of};
 ghost use Rattle.live_settle.specs.Rans.{AreRans};
 ghost use Rattle.repo_io.specs.Outside.{HasRisen};
 ghost use Rattle.live_top.specs.Answers.{HasCause, IsOfLines, LeavesRans, Refuses, Runs, SaysRefused, UsageIsOfWords};
-ghost use Rattle.live_top.specs.Answers.{WritesPrefix, is_live};
+ghost use Rattle.live_top.specs.Answers.{HaveActed, WritesPrefix, is_live};
 ghost use Rattle.script_report.specs.Refusals.{refusal_text};
 ghost use Rattle.live_top.specs.Outcomes.{first_draws, outcome_of};
 
@@ -48,7 +48,8 @@ pub fn run_live<R: Threads + Wait + Sync, S: Source, K: Sink, D: Draws, G: Gate 
 
     // On `Done` the members in `end` ran as the input says, with its group and lists, where every draw of a member is
     // its first. The journal of each replays from the member's initial state to the member, and the member's catalogue
-    // is the join of all lists. Their journals and then their catalogues were written.
+    // is the join of all lists. Before the settle all was done that a member's actors do. Their journals and then their
+    // catalogues were written.
     ensures left { LeavesRans (D.draw draws.now) (S.left source.old) (S.left source.new) (K.out sink.old)
         (K.out sink.new) result end.new }
 
@@ -167,7 +168,9 @@ fn run_members<R: Threads + Wait + Sync, D: Draws, G: Gate + Sync>(
     requires few { length lists.items < 2 ^ 32 }
     requires within { IsWithinLimits (meaning_of group.now (map (λ l. l.items) lists.items)
         (first_draws (D.draw draws.now) (length lists.items))) }
-    ensures { IfOk result (λ rans. AreRans (meaning_of group.now (map (λ l. l.items) lists.items)
+    ensures ran { IfOk result (λ rans. AreRans (meaning_of group.now (map (λ l. l.items) lists.items)
+        (first_draws (D.draw draws.now) (length lists.items))) rans.items) }
+    ensures acted { IfOk result (λ rans. HaveActed (meaning_of group.now (map (λ l. l.items) lists.items)
         (first_draws (D.draw draws.now) (length lists.items))) rans.items) }
 {
     let values = first_draws(alloc, draws, lists.len() as u32)?;

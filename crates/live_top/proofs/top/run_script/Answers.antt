@@ -8,7 +8,7 @@ use Rattle.live_settle.specs.Rans.{AreRans}
 use Rattle.repo_io.specs.declared.status.Status.TheVariants as status
 use Rattle.repo_io.specs.Outside.{GainsPrefix, GainsText}
 use Rattle.repo_io.proofs.Outputs.{prefix_taken}
-use Rattle.live_top.specs.Answers.{Runs, RunsTo}
+use Rattle.live_top.specs.Answers.{HaveActed, Runs, RunsTo}
 use Rattle.live_top.specs.Journals.{live_text}
 use Rattle.live_top.proofs.Running.{nobody_ran, same_meaning, within_limits}
 use Rattle.live_top.proofs.top.run_script.Goals as goal
@@ -33,7 +33,8 @@ returns-in-Ok-write_whole-clause-ran g c =
     let text = c.deref-3.ensures.value ∙ c.in-Ok-live_text.ensures
     ∙ (λ i. live_text (labels i) (c.deref-2.ensures.value i)) in
     record {
-      ran = subst (λ (t : Meaning). AreRans t c.in-Ok.rans.items) same c.in-Ok.ensures;
+      ran = subst (λ (t : Meaning). AreRans t c.in-Ok.rans.items) same c.in-Ok.ensures.ran;
+      acted = subst (λ (t : Meaning). HaveActed t c.in-Ok.rans.items) same c.in-Ok.ensures.acted;
       text = subst (GainsText a b) text c.in-Ok-write_whole.ensures.whole;
     }
 
@@ -52,7 +53,7 @@ returns-clause-ran g c =
       text = c.deref-3.result.now;
       may = record {
         rans = c.in-Ok.rans.items;
-        ran = subst (λ (t : Meaning). AreRans t c.in-Ok.rans.items) same c.in-Ok.ensures;
+        ran = subst (λ (t : Meaning). AreRans t c.in-Ok.rans.items) same c.in-Ok.ensures.ran;
         is = text;
       };
       prefix = prefix_taken a b c.in-Err.field-0.written c.deref-3.result.now c.in-Err.ensures.missing

@@ -39,5 +39,6 @@ returns-clause-out g c =
     made_anew g.L.Lists.meaning g.L.Run.turns c.self.inside.left c.self.inside.live c.widen-live.result
     c.widen-live.ensures.same c.widen-live.ensures.live c.self.invariant.1
     (ap (λ (o : OutView). o.left) c.self.view_is ∙ c.requires.none_left) n
-    (λ same. c.if-number.false (c.number.ensures ∙ same)) l (ap (λ (m : Living). m.state.number) is))
+    (λ same. c.if-number.false (c.number.ensures ∙ same)) l (ap (λ (m : Living). m.state.number) is)
+    (ap (λ (m : Living). m.journal) is))
     c.new.ensures.begins
