@@ -1,3 +1,4 @@
 pub mod Numbers
 pub mod Prefixes
 pub mod Spans
+pub mod LintAgrees

@@ -6,3 +6,4 @@ pub mod Words
 pub mod Forms
 pub mod Usage
 pub mod Lab
+pub mod LintLaws

@@ -5,9 +5,11 @@
 #![tactic(auto)]
 
 mod asked;
+mod laws;
 mod top;
 mod words;
 
 pub use lab_text::LabStatus;
+pub use laws::lint_tells_where_runs_end;
 pub use repo_io::{Failed, ReadSource, Sink, Source, VecSink, VecSource, WriteSink};
 pub use top::run_lab;
