@@ -35,11 +35,18 @@ fn main(rt: HostRuntime) -> ExitCode {
     ExitCode::from(status.code())
 }
 
-// The words of the command line, without the program's name.
+// The words of the command line, without the program's name. Where one isn't UTF-8 there are none, since no form has
+// such a word, and none without words.
 fn words<R: Env + AllocGlobal>(rt: &R) -> io::Result<Vec<String>> {
     let mut words = Vec::new(rt.alloc());
-    for word in env::args(rt)?.skip(1) {
-        words.push(word)?;
+    match env::args(rt) {
+        Ok(all) => {
+            for word in all.skip(1) {
+                words.push(word)?;
+            }
+        }
+        Err(error) if matches!(error.kind(), io::ErrorKind::InvalidData) => {}
+        Err(error) => return Err(error),
     }
     Ok(words)
 }
