@@ -1,6 +1,7 @@
 -- What lint writes of a script, beside how a run of it ends.
 use Rattle.std.proofs.Common.{◌≡◌, ◌∙◌, ℕ, ◌+◌, Bool, true, false, ◌&&◌, nat_le, nat_lt, List, []}
-use Rattle.std.proofs.Common.{◌∷◌, ◌++◌, length, Option, Some, None, Result, Ok, Err, refl, sym, ap, arith, if◌then◌else◌}
+use Rattle.std.proofs.Common.{◌∷◌, ◌++◌, length, Option, Some, None, Result, Ok, Err, refl, sym, ap, arith}
+use Rattle.std.proofs.Common.{if◌then◌else◌}
 use Rattle.std.specs.List.{list_any}
 use Rattle.std.proofs.lemmas.Bool.{and_from, and_parts, le-leb, leb-true, lt-ltb, ltb-true, or_parts}
 use Rattle.script_lang.specs.declared.verb.Verb.{Verb}
@@ -250,25 +251,24 @@ not_taken : (f : Finding) (d : Declared) → line_refused f ≡ line_taken d →
 not_taken f d h = cc
 
 module _ (env : RunEnvironment) (r : Reached) (line : List ℕ) (d : Declared) where
+  -- Within the limits of a script a line has the verdict that the state gives it, unless the report is too long.
+  verdict : is_within_script r line ≡ true
+      → evaluated_next env r line ≡ within_report r (story.evaluated env r.state line)
+  verdict within =
+      ap (λ (b : Bool). if b then within_report r (story.evaluated env r.state line) else story.refused Limit) within
+
   carried_out : is_within_script r line ≡ true → (c : Result (Option Stated) LineFault) → line_of line ≡ c
       → read r.state.declared line c ≡ line_taken d → IsCarriedOut env r line d
   unfolding story.evaluated story.evaluated_line
-  carried_out within (Ok None) is h = laws.nothing is (verdict ∙ ap (within_report r) (ap (story.read env r.state) is))
-    where
-      verdict : evaluated_next env r line ≡ within_report r (story.evaluated env r.state line)
-      verdict = ap (λ (b : Bool).
-          if b then within_report r (story.evaluated env r.state line) else story.refused Limit) within
+  carried_out within (Ok None) is h =
+      laws.nothing is (verdict within ∙ ap (within_report r) (ap (story.read env r.state) is))
   carried_out within (Ok (Some stated)) is h = go (after_line r.state.declared stated) refl h where
-    verdict : evaluated_next env r line ≡ within_report r (story.evaluated env r.state line)
-    verdict = ap (λ (b : Bool).
-        if b then within_report r (story.evaluated env r.state line) else story.refused Limit) within
-
     go : (c : Result Declared CheckFault) → after_line r.state.declared stated ≡ c
         → checked r.state.declared stated (body_of line) c ≡ line_taken d → IsCarriedOut env r line d
     go (Ok after) allows k =
         let same : after_line r.state.declared stated ≡ Ok d = allows ∙ ap Ok (taken_as after d k) in
         laws.stating stated is same
-        (verdict ∙ ap (within_report r)
+        (verdict within ∙ ap (within_report r)
         (ap (story.read env r.state) is ∙ ap (story.checked env r.state stated) same))
     go (Err fault) allows k = absurd (not_taken _ d k)
   carried_out within (Err fault) is h = absurd (not_taken _ d h)
